@@ -1,5 +1,5 @@
 -- The names that most proofs cite, passed on from one place. Declares nothing.
-pub use Rattle.std.proofs.Common.{IsSome, IsTrue, List, [], ap, append-nil, append_assoc, arith, codes, decimal, drop, get_or, inl, inr, length, length-append, map, min, refl, subst, suc, sym, take, zero, ℕ, ⊎_elim, ◌*◌, ◌++◌, ◌+◌, ◌-◌, ◌/◌, ◌<◌, ◌^◌, ◌∙◌, ◌∷◌, ◌≡◌, ◌≢◌, ◌≤◌, ◌⊎◌, Bool, cond, false, nat_le, nat_lt, not, position, true, ◌%◌, ◌==◌, add-one}
+pub use Rattle.std.proofs.Common.{rules, IsSome, IsTrue, List, [], ap, append-nil, append_assoc, arith, codes, decimal, drop, get_or, inl, inr, length, length-append, map, min, refl, subst, suc, sym, take, zero, ℕ, ⊎_elim, ◌*◌, ◌++◌, ◌+◌, ◌-◌, ◌/◌, ◌<◌, ◌^◌, ◌∙◌, ◌∷◌, ◌≡◌, ◌≢◌, ◌≤◌, ◌⊎◌, Bool, cond, false, nat_le, nat_lt, not, position, true, ◌%◌, ◌==◌, add-one}
 pub use Rattle.std.proofs.lemmas.Bool.{cases_lt, lt-ltb, ltb-true, eq-eqb, ne_eqb}
 pub use Rattle.std.proofs.lemmas.Bool.Decides.{nat_tests, Decides-eqb}
 pub use Rattle.std.proofs.lemmas.Grind.{common_steps, flat_map-append, elements}

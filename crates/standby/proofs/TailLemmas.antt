@@ -390,13 +390,13 @@ module _ (bytes bound : ℕ) (few : bound < 2 ^ 32) where
 
   pub record_bad : (front text left : List ℕ) (read index count number least : ℕ) (lines : List ShipLine) → index < count → least + (count - index) ≤ bound → number < 2 ^ 64 → text ≡ lines_text lines ++ left
       → IsRead bytes bound (front ++ lines_text lines) (read + index) number (count - index) least
-      → ((k : ℕ) (held rest : List ℕ) → least ≤ k → k ≤ bound - (count - index) → length held ≡ bytes → All (λ byte. byte < 256) held → left ≢ line_line k held ++ rest) → IsFirstBad (front ++ text) (read + index + 1)
+      → ((one : ℕ × List ℕ × List ℕ) → ¬ ((least ≤ one.0) × (one.0 ≤ bound - (count - index)) × (length one.1 ≡ bytes) × All (λ byte. byte < 256) one.1 × (left ≡ line_line one.0 one.1 ++ one.2))) → IsFirstBad (front ++ text) (read + index + 1)
   record_bad front text left read index count number least lines inside room small text_is is none =
       let owed : count - index ≡ suc (count - (index + 1)) = omega (arith, inside) in
       let was = subst (λ (n : ℕ). IsRead bytes bound (front ++ lines_text lines) (read + index) number n least) owed is in
       bad_here bytes bound few (front ++ lines_text lines) (read + index) number (suc (count - (index + 1))) least (front ++ text) left was small (omega (arith, room, owed))
       (ap (λ (these : List ℕ). front ++ these) text_is ∙ sym (append_assoc front (lines_text lines) left))
-      (λ line more may same. none may.0 may.1 more may.2 (omega (arith, may.3, owed)) may.4 may.5 (same ∙ ap (λ (these : List ℕ). these ++ more) may.6))
+      (λ line more may same. none (may.0, may.1, more) (may.2, omega (arith, may.3, owed), may.4, may.5, same ∙ ap (λ (these : List ℕ). these ++ more) may.6))
 
   -- a record more
   pub records_step : (head : List ℕ) (read number start count : ℕ) (records : List (List ShipLine)) (lines : List ShipLine) → number ≡ later start (length records) → count ≤ bound → length lines ≡ count

@@ -1,6 +1,6 @@
 -- What following a ship text did.
 use Rattle.std.specs.Prelude.{◌≡◌, ◌≢◌, ◌⊎◌, ℕ, ◌+◌, ◌≤◌, ◌<◌, List, [], length, IsSome}
-use Rattle.standby.specs.Below.{Call, call, Elapses, FlatStore, Ghosts, Given, held_of, IsFaultAt, IsOfOpening, IsOfStart, KeptStore, Leaves, number_of, OnlyAsks, PrintsBy, Rose, Shows, Stands, stands, Status, TellsStore}
+use Rattle.standby.specs.Below.{Call, call, Elapses, FaultsBy, FlatStore, Ghosts, Given, held_of, IsFaultAt, IsOfOpening, IsOfStart, KeptStore, Leaves, number_of, OnlyAsks, PrintsBy, Rose, Shows, Stands, stands, Status, TellsStore}
 use Rattle.outside.specs.Durable.{IsSure}
 use Rattle.standby.specs.State.{bank_behind, AllFit, IsAmong, IsTooLong, due, state}
 use Rattle.standby.specs.Followed.{IsAlike, IsAtNumber, StopsAt, followed_text}
@@ -100,6 +100,23 @@ IsRefusal status.PutFault = ⊥
 IsRefusal status.DiskFault = ⊥
 IsRefusal _ = Unit {0}
 
+-- a status of following a ship text
+abbrev pub IsOfText : Status → Type 0
+IsOfText status.Done = Unit {0}
+IsOfText status.PutFault = Unit {0}
+IsOfText (status.NotKept first last) = Unit {0}
+IsOfText (status.Stream place kind) = Unit {0}
+IsOfText other = IsOfOpening other
+
+-- A status of following a text, and what stays by it: the disk is as honest as it was, bytes that were told are told, and each count rises with its own fault alone.
+pub record EndsFollowing {W : Type 0} (G : Ghosts W) (before after : W) (now : Status) : Type 0 where
+  pub only : IsOfText now
+  pub honest : G.is_honest after ≡ G.is_honest before
+  pub told : IsSome (G.held before) → IsSome (G.held after)
+  pub calm : now ≢ status.DiskFault → G.disk_faults after ≡ G.disk_faults before
+  pub unfailed : now ≢ status.PutFault → G.put_faults after ≡ G.put_faults before
+  pub faults : FaultsBy G before after now
+
 -- What it did; there is no order. The disk is as honest as it was and time elapsed, bytes that were told are told, the disk's count of faults rises with
 -- DiskFault alone, the screen's with PutFault, and the source's with SourceFault. A refusal only asked the disk.
 pub record FollowedFrom {W : Type 0} (G : Ghosts W) (given : Given) (call : Call W) : Type 0 where
@@ -112,14 +129,6 @@ pub record FollowedFrom {W : Type 0} (G : Ghosts W) (given : Given) (call : Call
   pub read : call.status ≢ status.SourceFault → given.faults_now ≡ given.faults
   pub refused : IsRefusal call.status → OnlyAsks G call.before call.after
   pub by_status : FollowedBy G given call.before call.after call.status
-
--- a status of following a ship text
-abbrev pub IsOfText : Status → Type 0
-IsOfText status.Done = Unit {0}
-IsOfText status.PutFault = Unit {0}
-IsOfText (status.NotKept first last) = Unit {0}
-IsOfText (status.Stream place kind) = Unit {0}
-IsOfText other = IsOfOpening other
 
 -- a status of following
 abbrev pub IsOfFollow : Status → Type 0

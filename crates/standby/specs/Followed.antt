@@ -1,8 +1,8 @@
 -- What following a text does, and one record of it.
-use Rattle.std.specs.Prelude.{◌≡◌, ℕ, zero, suc, ◌+◌, ◌<◌, ◌≤◌, ◌↔◌, List, [], ◌++◌, length, take, Option, Result, Ok, Err, IfErr, IsSome, IfSome, ◌⊎◌, map}
+use Rattle.std.specs.Prelude.{◌≡◌, ℕ, zero, suc, ◌+◌, ◌<◌, ◌≤◌, ◌↔◌, List, [], ◌++◌, length, take, Option, Result, Ok, Err, IfErr, OnOk, IsSome, IfSome, ◌⊎◌, map, false}
 use Rattle.standby.specs.Below.{Elapses, Failed, FlatStore, Ghosts, Header, held_of, HoldsAtLeast, IsMoreBy, KeptStore, Leaves, line_bytes, line_count, number_of, Prints, Rose, Stands, stands, TracksStore, AreTold, most_lines, RecordLine, with_begun}
 use Rattle.standby.specs.Puts.{CountsPuts, SeesPart}
-use Rattle.standby.specs.State.{laid_by, bank_begun, laid, IsAmong, IsTooLong, AllFit}
+use Rattle.standby.specs.State.{laid_by, bank_begun, bank_behind, bank_with, laid, IsAmong, IsTooLong, AllFit}
 use Rattle.standby.specs.Text.{Content, ShipLine, later, end_line, kept_line, AreLines, IsPacked, record_of, next, told}
 use Rattle.standby.specs.declared.following.Followed.{Followed}
 use Rattle.standby.specs.declared.following.Followed.TheVariants.{Done, Geometry, NotKept, Long, DiskFault, PutFault}
@@ -187,6 +187,27 @@ StepsBy G bytes number store lines durable before after (Err _) = ⊥
 pub record Steps {W : Type 0} (G : Ghosts W) (bytes number : ℕ) (store : FlatStore) (lines : List ShipLine) (durable : KeptStore) (before after : W) (result : Result (Unit {0}) Followed) : Type 0 where
   pub crash : Leaves G (IsStep bytes number store lines (G.printed before)) before after
   pub ends : StepsBy G bytes number store lines durable before after result
+
+-- What committing these records did, with a line put for each, and the last.
+pub record FollowsAll {W : Type 0} (G : Ghosts W) (records : List ShipRecord) (was durable : KeptStore) (old new : W) (result : Result (Unit {0}) Followed) : Type 0 where
+  pub goes : GoesOn G was durable old new result
+  pub kept : OnOk result (durable.bank ≡ bank_behind was.bank (records_as was.header records))
+  pub follows : OfTracked G was old (λ store. Follows G (line_bytes was.header.directory.page) (number_of was) store (records_as was.header records) durable old new (followed_of result))
+
+-- and with no last line
+pub record KeepsEach {W : Type 0} (G : Ghosts W) (records : List ShipRecord) (was durable : KeptStore) (old new : W) (result : Result (Unit {0}) Followed) : Type 0 where
+  pub goes : GoesOn G was durable old new result
+  pub number : OnOk result (number_of durable ≡ later (number_of was) (length records))
+  pub kept : OnOk result (durable.bank ≡ bank_behind was.bank (records_as was.header records))
+  pub keeps : OfTracked G was old (λ store. Keeps G (line_bytes was.header.directory.page) (number_of was) store (records_as was.header records) durable old new (followed_of result))
+
+-- and one record
+pub record KeepsOne {W : Type 0} (G : Ghosts W) (sent : ShipRecord) (was durable : KeptStore) (old new : W) (result : Result (Unit {0}) Followed) : Type 0 where
+  pub goes : GoesOn G was durable old new result
+  pub usable : OnOk result (durable.bank.spoiled ≡ false)
+  pub number : OnOk result (number_of durable ≡ next (number_of was))
+  pub kept : OnOk result (durable.bank ≡ bank_with was.bank (record_of (line_bytes was.header.directory.page) sent))
+  pub steps : OfTracked G was old (λ store. Steps G (line_bytes was.header.directory.page) (number_of was) store (record_of (line_bytes was.header.directory.page) sent) durable old new result)
 
 -- how a line was put
 abbrev pub put_of : {T E : Type 0} → Result T E → Result (Unit {0}) Failed

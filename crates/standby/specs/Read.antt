@@ -1,10 +1,14 @@
 -- How a text is read: what may stand behind the lines so far, and the first line that may not.
-use Rattle.std.specs.Prelude.{◌≡◌, ◌≢◌, ◌⊎◌, ℕ, ◌+◌, ◌≤◌, ◌==◌, List, [], ◌∷◌, ◌++◌, length, count_by}
+use Rattle.std.specs.Prelude.{◌≡◌, ◌≢◌, ◌⊎◌, ℕ, ◌+◌, ◌≤◌, ◌==◌, List, [], ◌∷◌, ◌++◌, length, count_by, MatchOption, Option}
 use Rattle.std.specs.List.{AllByRecursion}
 use Rattle.standby.specs.Text.{Content, IsContent, IsPacked, ShipLine, AreLines, text_of, lines_text, record_of, records_text, end_line, later}
 use Rattle.standby.specs.declared.text.ShipFault.{ShipFault}
 use Rattle.standby.specs.declared.text.ShipFault.TheVariants.{Bad, Memory}
 use Rattle.standby.specs.declared.text.ShipRecord.{ShipRecord}
+
+-- what was found is one, by what is read of it; or none was found, and there is none
+abbrev pub ReadsOne : {T U : Type 0} → Option T → (T → U) → (U → Type 0) → Type 0
+ReadsOne {U = U} found read IsOne = MatchOption found ((one : U) → ¬ (IsOne one)) (λ one. IsOne (read one))
 
 -- bytes that are no line, or whole lines
 abbrev pub AreWhole : List ℕ → Type 0

@@ -1,27 +1,18 @@
 -- What shipping records does.
-use Rattle.std.specs.Prelude.{◌≡◌, ◌<◌, ℕ, List, All, length, map, drop, take, slice_get, Some, Result, Ok, Err, IfErr}
-use Rattle.standby.specs.Below.{area_bytes, AsksAndPuts, Ghosts, held_of, IsRecordAt, IsShown, KeptStore, line_bytes, line_count, Prints, RecordLine, Rose}
-use Rattle.standby.specs.Followed.{well, broken}
+use Rattle.std.specs.Prelude.{◌≡◌, ◌<◌, ◌≤◌, ℕ, List, All, length, map, drop, take, slice_get, Some, Result, Ok, Err, IfErr, IfOk, OnErr, OnOk}
+use Rattle.standby.specs.Below.{area_bytes, AsksAndPuts, FailsOnlyCounted, Ghosts, held_of, IsRecordAt, IsShown, IsUsable, KeptStore, line_bytes, line_count, OnlyAsks, Prints, RecordLine, Rose, total}
+use Rattle.standby.specs.Followed.{well, broken, put_of}
 use Rattle.standby.specs.Puts.{CountsPuts}
 use Rattle.standby.specs.Read.{feeds}
 use Rattle.standby.specs.State.{behind}
-use Rattle.standby.specs.Text.{Content, told}
+use Rattle.standby.specs.Text.{Content, IsContent, later, line_line, record_text, records_text, text_of, told}
+use Rattle.store.specs.declared.find.Record.{Record}
 use Rattle.standby.specs.declared.shipping.Shipped.{Shipped}
 use Rattle.standby.specs.declared.shipping.Shipped.TheVariants.{Done, NotKept, DiskFault, PutFault}
 
 -- a line of a record has so many bytes
 abbrev pub HasBytes : ℕ → RecordLine → Type 0
 HasBytes bytes one = (length one.bytes ≡ bytes) × All (λ byte. byte < 256) one.bytes
-
--- this holds of the records behind the first few that the bytes show, where these take so many bytes
-abbrev pub OfRecordsAt : {W : Type 0} → Ghosts W → KeptStore → (passed place : ℕ) → W → (List (List RecordLine) → Type 0) → Type 0
-OfRecordsAt G durable passed place now P =
-    (shown : IsShown G durable now) → place ≡ area_bytes durable.bank.page (take passed shown.shows.read.records) → P (drop passed shown.shows.read.records)
-
--- and this of the line with an index of the record at a place, where the bytes show that and it has so many lines
-abbrev pub OfLineAt : {W : Type 0} → Ghosts W → KeptStore → (place count index : ℕ) → W → (RecordLine → Type 0) → Type 0
-OfLineAt G durable place count index now P =
-    IsShown G durable now → (at : IsRecordAt (held_of G now) durable.bank place) → count ≡ length at.lines → (one : RecordLine) → slice_get at.lines index ≡ Some one → P one
 
 -- what a text of a store holds that ships from a number, by the records of its bank: those behind it
 abbrev pub shipped : KeptStore → List (List RecordLine) → ℕ → Content
@@ -59,6 +50,45 @@ pub record ShipsOn {W : Type 0} (G : Ghosts W) (old new : W) (result : Result (U
 abbrev pub PrintsBy : {W T : Type 0} → Ghosts W → List ℕ → W → W → Result T Shipped → Type 0
 PrintsBy G bytes old new (Ok done) = Prints (G.printed old) (G.printed new) bytes well × CountsPuts G (feeds bytes) old new
 PrintsBy G bytes old new (Err why) = Prints (G.printed old) (G.printed new) bytes broken
+
+-- so many records of a bank that needn't be reopened may be passed, and those behind them shipped
+pub record MayShip {W : Type 0} (G : Ghosts W) (durable : KeptStore) (count : ℕ) (outside : W) : Type 0 where
+  pub store : IsUsable G (total durable.header) durable.bank outside
+  pub some : 0 < durable.header.bank_bytes
+  pub passed : count ≤ durable.bank.count
+
+-- The place of the gate behind so many records was found, where the bytes show these; the disk is only asked, and its count tells of a failure.
+pub record FindsPlace {W : Type 0} (G : Ghosts W) (durable : KeptStore) (count : ℕ) (old new : W) (result : Result ℕ Shipped) : Type 0 where
+  pub asks : OnlyAsks G old new
+  pub only : OnErr result (result ≡ Err DiskFault)
+  pub cause : FailsOnlyCounted (G.disk_faults old) (G.disk_faults new) (put_of result)
+  pub inside : IfOk result (λ place. place < durable.header.bank_bytes)
+  pub place : IfOk result (λ place. (shown : IsShown G durable old) → place ≡ area_bytes durable.bank.page (take count shown.shows.read.records))
+
+-- Shipping goes on so, and of what the bytes show there the text is put, and it has its bytes.
+pub record ShipsText {W T : Type 0} (G : Ghosts W) (Of : (T → Type 0) → Type 0) (text : T → List ℕ) (Has : T → Type 0) (old new : W) (result : Result (Unit {0}) Shipped) : Type 0 where
+  pub goes : ShipsOn G old new result
+  pub prints : Of (λ one. PrintsBy G (text one) old new result)
+  pub bytes : OnOk result (Of Has)
+
+-- so it is with what a store ships from a number; the records behind the first few, where these take so many bytes; a record with its number; and a line of it
+abbrev pub ShipsContent : {W : Type 0} → Ghosts W → KeptStore → (from : ℕ) → W → W → Result (Unit {0}) Shipped → Type 0
+ShipsContent G durable from old = ShipsText G (λ P. (shown : IsShown G durable old) → P (shipped durable shown.shows.read.records from)) text_of IsContent old
+
+abbrev pub ShipsRecords : {W : Type 0} → Ghosts W → KeptStore → (passed place : ℕ) → W → W → Result (Unit {0}) Shipped → Type 0
+ShipsRecords G durable passed place old =
+    ShipsText G (λ P. (shown : IsShown G durable old) → place ≡ area_bytes durable.bank.page (take passed shown.shows.read.records) → P (drop passed shown.shows.read.records))
+    (λ records. records_text (later durable.bank.base passed) (map told records)) (λ records. All (λ lines. All (HasBytes (line_bytes durable.header.directory.page)) lines) records) old
+
+abbrev pub ShipsRecord : {W : Type 0} → Ghosts W → KeptStore → (number : ℕ) → Record → W → W → Result (Unit {0}) Shipped → Type 0
+ShipsRecord G durable number entry old =
+    ShipsText G (λ P. IsShown G durable old → (at : IsRecordAt (held_of G old) durable.bank entry.place) → entry.count ≡ length at.lines → P at.lines)
+    (λ lines. record_text number (told lines)) (λ lines. All (HasBytes (line_bytes durable.header.directory.page)) lines) old
+
+abbrev pub ShipsLine : {W : Type 0} → Ghosts W → KeptStore → Record → (index : ℕ) → W → W → Result (Unit {0}) Shipped → Type 0
+ShipsLine G durable entry index old =
+    ShipsText G (λ P. IsShown G durable old → (at : IsRecordAt (held_of G old) durable.bank entry.place) → entry.count ≡ length at.lines → (one : RecordLine) → slice_get at.lines index ≡ Some one → P one)
+    (λ one. line_line one.line one.bytes) (HasBytes (line_bytes durable.header.directory.page)) old
 
 -- how a text was put, by the end; where it wasn't to be nothing was called
 abbrev pub ShipsBy : {W : Type 0} → Ghosts W → List ℕ → W → W → Shipped → Type 0

@@ -1,8 +1,8 @@
 // A ship text that a store follows.
-ghost use Rattle.std.specs.Prelude.{◌≡◌, ◌≢◌, [], IsSome, MatchResult, IfErr, OnOk};
-ghost use Rattle.standby.specs.Below.{call, Elapses, given, OnlyAsks, ReadFaultsBy, Rose};
+ghost use Rattle.std.specs.Prelude.{◌≡◌, ◌≢◌, [], MatchResult, IfErr, OnOk};
+ghost use Rattle.standby.specs.Below.{call, Elapses, given, OnlyAsks, ReadFaultsBy};
 ghost use Rattle.standby.specs.Text.{IsShip, content_of};
-ghost use Rattle.standby.specs.FollowCalled.{FollowedFrom, IsNoText, IsOfFollow, IsOfText, IsRefusal, IsShipFrom, OnStore};
+ghost use Rattle.standby.specs.FollowCalled.{EndsFollowing, FollowedFrom, IsNoText, IsOfFollow, IsRefusal, IsShipFrom, OnStore};
 
 use super::following::{Followed, follow};
 use super::read::read_ship;
@@ -53,15 +53,9 @@ fn ship_from<S: Source>(alloc: Global, source: &mut S) -> Result<Ship, Status>
 fn follow_text<W: Outside>(alloc: Global, ship: &Ship, outside: &mut W) -> Status
     requires { IsShip ship.now }
     ensures on { OnStore W.Outside (content_of ship.now) outside.old outside.new result }
-    ensures honest { W.is_honest outside.new ≡ W.is_honest outside.old }
     ensures time { Elapses W.moment W.left_since outside.old outside.new }
-    ensures told { IsSome (W.held outside.old) → IsSome (W.held outside.new) }
     ensures refused { IsRefusal result → OnlyAsks W.Outside outside.old outside.new }
-    ensures calm { result ≢ Status.DiskFault → W.disk_faults outside.new ≡ W.disk_faults outside.old }
-    ensures unfailed { result ≢ Status.PutFault → W.put_faults outside.new ≡ W.put_faults outside.old }
-    ensures put { result ≡ Status.PutFault → Rose (W.put_faults outside.old) (W.put_faults outside.new) }
-    ensures disk { result ≡ Status.DiskFault → Rose (W.disk_faults outside.old) (W.disk_faults outside.new) }
-    ensures only { IsOfText result }
+    ensures ends { EndsFollowing W.Outside outside.old outside.new result }
 {
     let mut store = match Durable::open(alloc, outside) {
         Ok(store) => store,

@@ -1,10 +1,10 @@
 // The records of a ship text, committed to a store one after another.
-ghost use Rattle.std.specs.Prelude.{◌≡◌, ◌≢◌, ◌↔◌, ◌+◌, ◌≤◌, ◌<◌, ◌^◌, ◌⊎◌, ℕ, [], All, length, false, IsTrue, IfSome, IfNone, Err, IfErr, OnOk, OnErr};
+ghost use Rattle.std.specs.Prelude.{◌≡◌, ◌≢◌, ◌↔◌, ◌+◌, ◌≤◌, ◌<◌, ◌^◌, ◌⊎◌, ℕ, [], All, length, IsTrue, IfSome, IfNone, Err, OnErr};
 ghost use Rattle.standby.specs.Below.{IsUsable, line_bytes, number_of, total};
-ghost use Rattle.standby.specs.State.{bank_with, bank_behind, IsLongAt, due};
-ghost use Rattle.standby.specs.Followed.{IsAlike, OfTracked, OnlyGoesOn, EndsBy, FoundOf, GoesOn, Keeps, Follows, IsFitting, IsBegun, Steps, followed_of, put_of, records_as};
+ghost use Rattle.standby.specs.State.{bank_behind, IsLongAt, due};
+ghost use Rattle.standby.specs.Followed.{IsAlike, OfTracked, OnlyGoesOn, EndsBy, FollowsAll, FoundOf, Follows, IsFitting, IsBegun, KeepsEach, KeepsOne, put_of};
 ghost use Rattle.standby.specs.Puts.{Puts};
-ghost use Rattle.standby.specs.Text.{IsShip, content_of, record_of, later, next};
+ghost use Rattle.standby.specs.Text.{IsShip, content_of, record_of};
 
 use super::line::{fill_end, fill_kept};
 use super::text::{Ship, ShipRecord};
@@ -96,9 +96,7 @@ fn keep_all<W: Outside>(
 ) -> Result<(), Followed>
     requires fitting { All (IsFitting durable.old.header) records.now }
     requires store { IsUsable W.Outside (total durable.old.header) durable.old.bank outside.old }
-    ensures goes { GoesOn W.Outside durable.old durable.new outside.old outside.new result }
-    ensures kept { OnOk result (durable.new.bank ≡ bank_behind durable.old.bank (records_as durable.old.header records.now)) }
-    ensures follows { OfTracked W.Outside durable.old outside.old (λ store. Follows W.Outside (line_bytes durable.old.header.directory.page) (number_of durable.old) store (records_as durable.old.header records.now) durable.new outside.old outside.new (followed_of result)) }
+    ensures { FollowsAll W.Outside records.now durable.old durable.new outside.old outside.new result }
 {
     let mut text = TextLine::new();
     match keep_each(durable, records, &mut text, outside) {
@@ -118,10 +116,7 @@ fn keep_each<W: Outside>(
 ) -> Result<(), Followed>
     requires fitting { All (IsFitting durable.old.header) records.now }
     requires store { IsUsable W.Outside (total durable.old.header) durable.old.bank outside.old }
-    ensures goes { GoesOn W.Outside durable.old durable.new outside.old outside.new result }
-    ensures number { OnOk result (number_of durable.new ≡ later (number_of durable.old) (length records.now)) }
-    ensures kept { OnOk result (durable.new.bank ≡ bank_behind durable.old.bank (records_as durable.old.header records.now)) }
-    ensures keeps { OfTracked W.Outside durable.old outside.old (λ store. Keeps W.Outside (line_bytes durable.old.header.directory.page) (number_of durable.old) store (records_as durable.old.header records.now) durable.new outside.old outside.new (followed_of result)) }
+    ensures { KeepsEach W.Outside records.now durable.old durable.new outside.old outside.new result }
 {
     for record in records {
         match keep(durable, record, text, outside) {
@@ -141,11 +136,7 @@ fn keep<W: Outside>(
 ) -> Result<(), Followed>
     requires fitting { IsFitting durable.old.header sent.now }
     requires store { IsUsable W.Outside (total durable.old.header) durable.old.bank outside.old }
-    ensures goes { GoesOn W.Outside durable.old durable.new outside.old outside.new result }
-    ensures usable { OnOk result (durable.new.bank.spoiled ≡ false) }
-    ensures number { OnOk result (number_of durable.new ≡ next (number_of durable.old)) }
-    ensures kept { OnOk result (durable.new.bank ≡ bank_with durable.old.bank (record_of (line_bytes durable.old.header.directory.page) sent.now)) }
-    ensures steps { OfTracked W.Outside durable.old outside.old (λ store. Steps W.Outside (line_bytes durable.old.header.directory.page) (number_of durable.old) store (record_of (line_bytes durable.old.header.directory.page) sent.now) durable.new outside.old outside.new result) }
+    ensures { KeepsOne W.Outside sent.now durable.old durable.new outside.old outside.new result }
 {
     begin(durable, sent);
     match durable.commit(outside) {

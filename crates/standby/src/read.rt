@@ -1,6 +1,6 @@
 // A ship text, read.
 ghost use Rattle.std.specs.Prelude.{◌≡◌, ◌≢◌, ◌+◌, ◌≤◌, ◌<◌, ◌^◌, ◌++◌, ◌∷◌, ℕ, List, All, length, MatchResult, MatchOption, IfOk, IfErr};
-ghost use Rattle.standby.specs.Read.{IsRead, IsReadFault, IsReadRecord};
+ghost use Rattle.standby.specs.Read.{IsRead, IsReadFault, IsReadRecord, ReadsOne};
 ghost use Rattle.standby.specs.Text.{IsTextOf, head_line, line_line, lines_text, record_line, record_of};
 ghost use Rattle.hex.specs.Hex.{encode_lower};
 
@@ -141,9 +141,7 @@ fn count_of<'a>(
     lines: u32,
     text: &'a [u8],
 ) -> Option<(u32, &'a [u8])>
-    ensures { MatchOption result
-        ((count : ℕ) (rest : List ℕ) → count ≤ lines → text.now ≢ record_line number count ++ rest)
-        (λ found. (found.0 ≤ lines) × (text.now ≡ record_line number found.0 ++ found.1.now)) }
+    ensures { ReadsOne {U = ℕ × List ℕ} result (λ found. (found.0, found.1.now)) (λ one. (one.0 ≤ lines) × (text.now ≡ record_line number one.0 ++ one.1)) }
 {
     let (_, rest) = number_to(b' ', skip(7, text));
     let (count, _) = number_to(b'\n', rest);
@@ -168,9 +166,8 @@ fn line_of<'a>(
     most: u32,
     text: &'a [u8],
 ) -> Result<Option<(u32, Vec<u8>, &'a [u8])>, AllocError>
-    ensures { IfOk result (λ found. MatchOption found
-        ((line : ℕ) (held rest : List ℕ) → least ≤ line → line ≤ most → length held ≡ line_bytes → All (λ byte. byte < 256) held → text.now ≢ line_line line held ++ rest)
-        (λ one. (least ≤ one.0) × (one.0 ≤ most) × (length one.1.items ≡ line_bytes) × All (λ byte. byte < 256) one.1.items × (text.now ≡ line_line one.0 one.1.items ++ one.2.now))) }
+    ensures { IfOk result (λ found. ReadsOne {U = ℕ × List ℕ × List ℕ} found (λ one. (one.0, one.1.items, one.2.now))
+        (λ one. (least ≤ one.0) × (one.0 ≤ most) × (length one.1 ≡ line_bytes) × All (λ byte. byte < 256) one.1 × (text.now ≡ line_line one.0 one.1 ++ one.2))) }
 {
     let (line, _) = number_to(b' ', skip(5, text));
     let line = small(line);
@@ -195,9 +192,8 @@ fn held_of<'a>(
     line_bytes: u16,
     text: &'a [u8],
 ) -> Result<Option<(Vec<u8>, &'a [u8])>, AllocError>
-    ensures { IfOk result (λ found. MatchOption found
-        ((held rest : List ℕ) → length held ≡ line_bytes → All (λ byte. byte < 256) held → text.now ≢ encode_lower held ++ 10 ∷ rest)
-        (λ one. (length one.0.items ≡ line_bytes) × All (λ byte. byte < 256) one.0.items × (text.now ≡ encode_lower one.0.items ++ 10 ∷ one.1.now))) }
+    ensures { IfOk result (λ found. ReadsOne {U = List ℕ × List ℕ} found (λ one. (one.0.items, one.1.now))
+        (λ one. (length one.0 ≡ line_bytes) × All (λ byte. byte < 256) one.0 × (text.now ≡ encode_lower one.0 ++ 10 ∷ one.1))) }
 {
     match place_of(b'\n', text) {
         Some(at) => {

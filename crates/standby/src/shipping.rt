@@ -1,11 +1,11 @@
 // The records of a bank behind a number, put as a text.
-ghost use Rattle.std.specs.Prelude.{◌≡◌, ◌≢◌, ◌↔◌, ◌+◌, ◌≤◌, ◌<◌, ◌⊎◌, All, length, map, take, Err, IfOk, IfErr, OnOk, OnErr, false};
-ghost use Rattle.standby.specs.Below.{area_bytes, AsksAndPuts, FailsOnlyCounted, held_of, IsRecordAt, IsShown, IsUsable, line_bytes, line_count, OnlyAsks, record_bytes, total};
+ghost use Rattle.std.specs.Prelude.{◌≡◌, ◌≢◌, ◌↔◌, ◌+◌, ◌≤◌, ◌<◌, ◌⊎◌, Err, OnErr};
+ghost use Rattle.standby.specs.Below.{AsksAndPuts, IsShown, IsUsable, line_count, record_bytes, total};
 ghost use Rattle.standby.specs.Puts.{Puts};
-ghost use Rattle.standby.specs.Shipped.{EndsBy, HasBytes, ShipsOn, OfLineAt, OfRecordsAt, PrintsBy, ShipsBy, shipped, shipped_of};
+ghost use Rattle.standby.specs.Shipped.{EndsBy, FindsPlace, MayShip, ShipsBy, ShipsContent, ShipsLine, ShipsRecord, ShipsRecords, shipped};
 ghost use Rattle.standby.specs.State.{behind};
 ghost use Rattle.standby.specs.Followed.{put_of};
-ghost use Rattle.standby.specs.Text.{IsContent, later, line_line, record_text, records_text, told, text_of};
+ghost use Rattle.standby.specs.Text.{IsContent, later, text_of};
 
 use super::line::{fill_end, fill_head, fill_line, fill_record};
 use outside::{Failed, Outside};
@@ -57,15 +57,11 @@ fn put_text<W: Outside>(
     lines: u32,
     outside: &mut W,
 ) -> Result<(), Shipped>
-    requires store { IsUsable W.Outside (total durable.now.header) durable.now.bank outside.old }
-    requires some { 0 < durable.now.header.bank_bytes }
+    requires may { MayShip W.Outside durable.now passed outside.old }
     requires lines { lines ≡ line_count durable.now.header.directory }
-    requires passed { passed ≤ durable.now.bank.count }
     requires from { from ≡ later durable.now.bank.base passed }
     requires behind { passed ≡ behind durable.now.bank.base from }
-    ensures goes { ShipsOn W.Outside outside.old outside.new result }
-    ensures prints { (shown : IsShown W.Outside durable.now outside.old) → PrintsBy W.Outside (text_of (shipped durable.now shown.shows.read.records from)) outside.old outside.new result }
-    ensures content { OnOk result ((shown : IsShown W.Outside durable.now outside.old) → IsContent (shipped durable.now shown.shows.read.records from)) }
+    ensures { ShipsContent W.Outside durable.now from outside.old outside.new result }
 {
     let place = match place_behind(durable, passed, outside) {
         Ok(place) => place,
@@ -92,14 +88,8 @@ fn put_text<W: Outside>(
 
 /// The place of the gate after so many records.
 fn place_behind<W: Outside>(durable: &Durable, passed: u32, outside: &mut W) -> Result<u32, Shipped>
-    requires store { IsUsable W.Outside (total durable.now.header) durable.now.bank outside.old }
-    requires some { 0 < durable.now.header.bank_bytes }
-    requires passed { passed ≤ durable.now.bank.count }
-    ensures asks { OnlyAsks W.Outside outside.old outside.new }
-    ensures only { OnErr result (result ≡ Err Shipped.DiskFault) }
-    ensures cause { FailsOnlyCounted (W.disk_faults outside.old) (W.disk_faults outside.new) (put_of result) }
-    ensures inside { IfOk result (λ place. place < durable.now.header.bank_bytes) }
-    ensures place { IfOk result (λ place. (shown : IsShown W.Outside durable.now outside.old) → place ≡ area_bytes durable.now.bank.page (take passed shown.shows.read.records)) }
+    requires { MayShip W.Outside durable.now passed outside.old }
+    ensures { FindsPlace W.Outside durable.now passed outside.old outside.new result }
 {
     let mut place = 0;
     for _index in 0..passed {
@@ -119,13 +109,9 @@ fn put_records<W: Outside>(
     text: &mut TextLine,
     outside: &mut W,
 ) -> Result<(), Shipped>
-    requires store { IsUsable W.Outside (total durable.now.header) durable.now.bank outside.old }
-    requires passed { passed ≤ durable.now.bank.count }
-    requires some { 0 < durable.now.header.bank_bytes }
+    requires may { MayShip W.Outside durable.now passed outside.old }
     requires inside { place < durable.now.header.bank_bytes }
-    ensures goes { ShipsOn W.Outside outside.old outside.new result }
-    ensures prints { OfRecordsAt W.Outside durable.now passed place outside.old (λ records. PrintsBy W.Outside (records_text (later durable.now.bank.base passed) (map told records)) outside.old outside.new result) }
-    ensures bytes { OnOk result (OfRecordsAt W.Outside durable.now passed place outside.old (λ records. All (λ lines. All (HasBytes (line_bytes durable.now.header.directory.page)) lines) records)) }
+    ensures { ShipsRecords W.Outside durable.now passed place outside.old outside.new result }
 {
     let mut place = place;
     for index in passed..durable.records() {
@@ -152,9 +138,7 @@ fn put_record<W: Outside>(
 ) -> Result<(), Shipped>
     requires store { IsUsable W.Outside (total durable.now.header) durable.now.bank outside.old }
     requires fits { (entry.now.count ≡ 0) ⊎ (entry.now.place + record_bytes durable.now.header.directory.page entry.now.count < durable.now.header.bank_bytes) }
-    ensures goes { ShipsOn W.Outside outside.old outside.new result }
-    ensures prints { (shown : IsShown W.Outside durable.now outside.old) → (at : IsRecordAt (held_of W.Outside outside.old) durable.now.bank entry.now.place) → entry.now.count ≡ length at.lines → PrintsBy W.Outside (record_text number (told at.lines)) outside.old outside.new result }
-    ensures bytes { OnOk result ((shown : IsShown W.Outside durable.now outside.old) → (at : IsRecordAt (held_of W.Outside outside.old) durable.now.bank entry.now.place) → entry.now.count ≡ length at.lines → All (HasBytes (line_bytes durable.now.header.directory.page)) at.lines) }
+    ensures { ShipsRecord W.Outside durable.now number entry.now outside.old outside.new result }
 {
     fill_record(text, number, u32::from(entry.count));
     match put_line(text.as_slice(), outside) {
@@ -181,9 +165,7 @@ fn put_one<W: Outside>(
     requires store { IsUsable W.Outside (total durable.now.header) durable.now.bank outside.old }
     requires fits { entry.now.place + record_bytes durable.now.header.directory.page entry.now.count < durable.now.header.bank_bytes }
     requires below { index < entry.now.count }
-    ensures goes { ShipsOn W.Outside outside.old outside.new result }
-    ensures prints { OfLineAt W.Outside durable.now entry.now.place entry.now.count index outside.old (λ one. PrintsBy W.Outside (line_line one.line one.bytes) outside.old outside.new result) }
-    ensures bytes { OnOk result (OfLineAt W.Outside durable.now entry.now.place entry.now.count index outside.old (HasBytes (line_bytes durable.now.header.directory.page))) }
+    ensures { ShipsLine W.Outside durable.now entry.now index outside.old outside.new result }
 {
     let mut room = [0; 256];
     let bytes = &mut room[..durable.header().line_bytes()];

@@ -1,3 +1,4 @@
+use Rattle.standby.proofs.Common.{rules}
 use Rattle.standby.proofs.Lemmas.{arith, common_steps, ◌≡◌, ◌∙◌, ap, subst, Err, line_bytes, FlatStore, Stands, stands, Leaves, held_of, IsEither, KeptBank, KeptStore, number_of, TracksStore, Steps, put_of, kept_line, next, record_of, DiskFault, with_record, goes_on, goes_puts, goes_writes, either_begun, more_begun, on_ok, sized, step_kept, step_unkept, tracks_begun}
 use Rattle.store.specs.Appended.{CountsKept}
 use Rattle.store.specs.declared.keep.Kept.{Kept}
@@ -34,27 +35,24 @@ returns-in-Unwritten g c =
 pub commit-requires : goal.commit-requires
 commit-requires g c = grind (arith, common_steps, ap (λ (store : KeptStore). store.bank.spoiled) c.begin.ensures.now_is ∙ c.requires.store.usable)
 
-pub returns-clause-usable : goal.returns-clause-usable
-returns-clause-usable g c = on_ok c.put_line.result (c.commit.ensures.usable c.in-Done.is)
-
-pub returns-clause-goes : goal.returns-clause-goes
-returns-clause-goes g c = grind (
-  arith,
-  goes_on g.W.Outside g.met.W.Outside.fewer_later c.args.outside.now c.commit.new.outside c.put_line.new.outside (goes_writes g.W.Outside c.args.outside.now c.commit.new.outside c.commit.ensures.only)
-      (goes_puts g.W.Outside c.as_slice.result.now c.commit.new.outside c.put_line.new.outside (put_of c.put_line.result) c.put_line.ensures.puts),
-)
-
-pub returns-clause-kept : goal.returns-clause-kept
-returns-clause-kept g c =
-    on_ok c.put_line.result
-    (subst (λ (kept : Kept). IsKeptAfter kept (roomy c.begin.new.durable.bank) c.begin.new.durable.bank c.commit.new.self.bank) c.in-Done.is c.commit.ensures.kept ∙ ap (λ (bank : KeptBank). with_record (roomy bank)) c.begin.ensures.bank_is)
-
-pub returns-clause-steps : goal.returns-clause-steps
-returns-clause-steps g c store tracks stood =
-    let at = (goal.at.returns-clause-steps g c).After-commit in
-    let done = c.commit.ensures.done c.in-Done.is (tracked g at tracks) in
-    let number : c.number.result ≡ next (number_of c.args.durable.now) = c.number.ensures ∙ c.commit.ensures.number ∙ ap (λ (kept : Kept). number_after kept (number_of c.begin.new.durable)) c.in-Done.is ∙ ap (λ (store : KeptStore). next (number_of store)) c.begin.ensures.now_is in
-    step_kept g.W.Outside g.met.W.Outside.fewer_later g.met.W.Outside.printed_now (number_of c.args.durable.now) (line_bytes c.args.durable.now.header.directory.page) store (record_of (line_bytes c.args.durable.now.header.directory.page) c.args.sent.now) c.begin.ensures.begun c.args.outside.now c.commit.new.outside
-    (sized (held_of g.W.Outside c.args.outside.now) c.args.durable.now (number_of c.args.durable.now) store tracks.shows stood) c.begin.ensures.lines_are stood c.commit.ensures.only.calls (either g at tracks) c.commit.new.self c.put_line.new.outside c.as_slice.result.now c.put_line.result done.tracks
-    (more_begun c.args.durable.now c.begin.new.durable c.begin.ensures.begun (stands (held_of g.W.Outside c.args.outside.now)) (stands (held_of g.W.Outside c.commit.new.outside)) c.begin.ensures.now_is done.stood)
-    (c.as_slice.ensures ∙ c.fill_kept.ensures ∙ ap kept_line number) c.put_line.ensures.only c.put_line.ensures.puts
+pub returns : goal.returns
+returns g c = record {
+  number = search rules;
+  goes = grind (
+    arith,
+    goes_on g.W.Outside g.met.W.Outside.fewer_later c.args.outside.now c.commit.new.outside c.put_line.new.outside (goes_writes g.W.Outside c.args.outside.now c.commit.new.outside c.commit.ensures.only)
+        (goes_puts g.W.Outside c.as_slice.result.now c.commit.new.outside c.put_line.new.outside (put_of c.put_line.result) c.put_line.ensures.puts),
+  );
+  usable = on_ok c.put_line.result (c.commit.ensures.usable c.in-Done.is);
+  kept =
+      on_ok c.put_line.result
+      (subst (λ (kept : Kept). IsKeptAfter kept (roomy c.begin.new.durable.bank) c.begin.new.durable.bank c.commit.new.self.bank) c.in-Done.is c.commit.ensures.kept ∙ ap (λ (bank : KeptBank). with_record (roomy bank)) c.begin.ensures.bank_is);
+  steps = λ store tracks stood.
+      let at = (goal.at.returns g c).After-commit in
+      let done = c.commit.ensures.done c.in-Done.is (tracked g at tracks) in
+      let number : c.number.result ≡ next (number_of c.args.durable.now) = c.number.ensures ∙ c.commit.ensures.number ∙ ap (λ (kept : Kept). number_after kept (number_of c.begin.new.durable)) c.in-Done.is ∙ ap (λ (store : KeptStore). next (number_of store)) c.begin.ensures.now_is in
+      step_kept g.W.Outside g.met.W.Outside.fewer_later g.met.W.Outside.printed_now (number_of c.args.durable.now) (line_bytes c.args.durable.now.header.directory.page) store (record_of (line_bytes c.args.durable.now.header.directory.page) c.args.sent.now) c.begin.ensures.begun c.args.outside.now c.commit.new.outside
+      (sized (held_of g.W.Outside c.args.outside.now) c.args.durable.now (number_of c.args.durable.now) store tracks.shows stood) c.begin.ensures.lines_are stood c.commit.ensures.only.calls (either g at tracks) c.commit.new.self c.put_line.new.outside c.as_slice.result.now c.put_line.result done.tracks
+      (more_begun c.args.durable.now c.begin.new.durable c.begin.ensures.begun (stands (held_of g.W.Outside c.args.outside.now)) (stands (held_of g.W.Outside c.commit.new.outside)) c.begin.ensures.now_is done.stood)
+      (c.as_slice.ensures ∙ c.fill_kept.ensures ∙ ap kept_line number) c.put_line.ensures.only c.put_line.ensures.puts;
+}

@@ -1,3 +1,4 @@
+use Rattle.standby.proofs.Common.{rules}
 use Rattle.standby.proofs.Lemmas.{◌≡◌, ℕ, ◌+◌, ◌<◌, List, [], ◌∷◌, length, map, take, get_or, refl, sym, subst, ◌∙◌, ap, arith, Result, Ok, Err, fold-append, get_or-map, length-map, take_all, take_more, line_bytes, Header, FlatStore, Stands, Ghosts, KeptBank, KeptStore, number_of, bank_behind, bank_with, laid_by, Steps, ShipLine, later, next, record_of, Followed, ShipRecord, nat_tests, so_far_all, so_far_more, so_far_none, so_far_stopped, goes_none, goes_on}
 use Rattle.standby.proofs.TellLemmas.{later_more}
 use Rattle.standby.proofs.following.keep_each.Goals as goal
@@ -30,19 +31,6 @@ loop-record-init g c =
           so_far_none g.W.Outside g.met.W.Outside.fewer_later g.met.W.Outside.printed_now (line_bytes c.args.durable.now.header.directory.page) (number_of c.args.durable.now) store (map (record_of (line_bytes c.args.durable.now.header.directory.page)) c.args.records.now) c.args.durable.now c.args.outside.now (sym number) tracks stood;
     }
 
-pub returns-in-Err-clause-keeps : goal.returns-in-Err-clause-keeps
-returns-in-Err-clause-keeps g c store tracks stood =
-    let i = c.loop-record.record-index in
-    let all = map (record_of (line_bytes c.args.durable.now.header.directory.page)) c.args.records.now in
-    let so_far = c.loop-record.invariant.so_far store tracks stood in
-    let lt : i < length all = omega (arith, c.loop-record-test.true, length-map c.args.records.now (record_of (line_bytes c.args.durable.now.header.directory.page))) in
-    let steps = subst (λ (header : Header). Steps g.W.Outside (line_bytes header.directory.page) (number_of c.loop-record.durable) (laid_by (line_bytes c.args.durable.now.header.directory.page) store (take i all)) (record_of (line_bytes header.directory.page) c.record-item.result) c.keep.new.durable c.loop-record.outside c.keep.new.outside c.keep.result) c.loop-record.invariant.header
-    (c.keep.ensures.steps (laid_by (line_bytes c.args.durable.now.header.directory.page) store (take i all)) so_far.tracks (so_far.stood ∙ ap (λ (n : ℕ). Stands n (laid_by (line_bytes c.args.durable.now.header.directory.page) store (take i all))) (sym c.loop-record.invariant.number))) in
-    so_far_stopped g.W.Outside g.met.W.Outside.fewer_later g.met.W.Outside.printed_now (line_bytes c.args.durable.now.header.directory.page) (number_of c.args.durable.now) store all i lt c.loop-record.durable c.args.outside.now c.loop-record.outside
-    c.loop-record.invariant.only.time so_far c.keep.new.durable c.keep.new.outside c.keep.ensures.goes.only.time c.in-Err.why
-    (step_at g.W.Outside (line_bytes c.args.durable.now.header.directory.page) (number_of c.loop-record.durable) (later (number_of c.args.durable.now) i) (laid_by (line_bytes c.args.durable.now.header.directory.page) store (take i all)) (record_of (line_bytes c.args.durable.now.header.directory.page) c.record-item.result) (get_or all i []) c.keep.new.durable c.loop-record.outside c.keep.new.outside c.keep.result (Err c.in-Err.why)
-    c.loop-record.invariant.number (lines_are (line_bytes c.args.durable.now.header.directory.page) c.args.records.now i c.record-item.result c.loop-record-test.true c.record-item.is) c.in-Err.is steps)
-
 pub loop-record-preserved : goal.loop-record-preserved
 loop-record-preserved g c =
     let i = c.loop-record.record-index in
@@ -67,19 +55,36 @@ loop-record-preserved g c =
           c.loop-record.invariant.number (lines_are (line_bytes c.args.durable.now.header.directory.page) c.args.records.now i c.record-item.result c.loop-record-test.true c.record-item.is) c.in-Ok.is steps);
     }
 
-pub returns-clause-kept : goal.returns-clause-kept
-returns-clause-kept g c =
-    let all = map (record_of (line_bytes c.args.durable.now.header.directory.page)) c.args.records.now in
-    c.loop-record.invariant.bank ∙ ap (bank_behind c.args.durable.now.bank) (take_all c.loop-record.record-index all (omega (arith, c.loop-record-test.false, length-map c.args.records.now (record_of (line_bytes c.args.durable.now.header.directory.page)))))
-
-pub returns-clause-keeps : goal.returns-clause-keeps
-returns-clause-keeps g c store tracks stood =
-    let all = map (record_of (line_bytes c.args.durable.now.header.directory.page)) c.args.records.now in
-    so_far_all g.W.Outside g.met.W.Outside.fewer_later g.met.W.Outside.printed_now (line_bytes c.args.durable.now.header.directory.page) (number_of c.args.durable.now) store all c.loop-record.record-index c.loop-record.durable c.args.outside.now c.loop-record.outside
-    (omega (arith, c.loop-record-test.false, c.loop-record.auto.record-index-end, length-map c.args.records.now (record_of (line_bytes c.args.durable.now.header.directory.page)))) (c.loop-record.invariant.so_far store tracks stood)
+pub returns : goal.returns
+returns g c = record {
+  goes = search rules;
+  number = search rules;
+  kept =
+      let all = map (record_of (line_bytes c.args.durable.now.header.directory.page)) c.args.records.now in
+      c.loop-record.invariant.bank ∙ ap (bank_behind c.args.durable.now.bank) (take_all c.loop-record.record-index all (omega (arith, c.loop-record-test.false, length-map c.args.records.now (record_of (line_bytes c.args.durable.now.header.directory.page)))));
+  keeps = λ store tracks stood.
+      let all = map (record_of (line_bytes c.args.durable.now.header.directory.page)) c.args.records.now in
+      so_far_all g.W.Outside g.met.W.Outside.fewer_later g.met.W.Outside.printed_now (line_bytes c.args.durable.now.header.directory.page) (number_of c.args.durable.now) store all c.loop-record.record-index c.loop-record.durable c.args.outside.now c.loop-record.outside
+      (omega (arith, c.loop-record-test.false, c.loop-record.auto.record-index-end, length-map c.args.records.now (record_of (line_bytes c.args.durable.now.header.directory.page)))) (c.loop-record.invariant.so_far store tracks stood);
+}
 
 pub keep-requires-clause-fitting : goal.keep-requires-clause-fitting
 keep-requires-clause-fitting g c = grind arith
 
-pub returns-in-Err-clause-goes : goal.returns-in-Err-clause-goes
-returns-in-Err-clause-goes g c = grind (arith, goes_on g.W.Outside g.met.W.Outside.fewer_later c.args.outside.now c.loop-record.outside c.keep.new.outside c.loop-record.invariant.only c.keep.ensures.goes.only)
+pub returns-in-Err : goal.returns-in-Err
+returns-in-Err g c = record {
+  number = search rules;
+  kept = search rules;
+  goes = grind (arith, goes_on g.W.Outside g.met.W.Outside.fewer_later c.args.outside.now c.loop-record.outside c.keep.new.outside c.loop-record.invariant.only c.keep.ensures.goes.only);
+  keeps = λ store tracks stood.
+      let i = c.loop-record.record-index in
+      let all = map (record_of (line_bytes c.args.durable.now.header.directory.page)) c.args.records.now in
+      let so_far = c.loop-record.invariant.so_far store tracks stood in
+      let lt : i < length all = omega (arith, c.loop-record-test.true, length-map c.args.records.now (record_of (line_bytes c.args.durable.now.header.directory.page))) in
+      let steps = subst (λ (header : Header). Steps g.W.Outside (line_bytes header.directory.page) (number_of c.loop-record.durable) (laid_by (line_bytes c.args.durable.now.header.directory.page) store (take i all)) (record_of (line_bytes header.directory.page) c.record-item.result) c.keep.new.durable c.loop-record.outside c.keep.new.outside c.keep.result) c.loop-record.invariant.header
+      (c.keep.ensures.steps (laid_by (line_bytes c.args.durable.now.header.directory.page) store (take i all)) so_far.tracks (so_far.stood ∙ ap (λ (n : ℕ). Stands n (laid_by (line_bytes c.args.durable.now.header.directory.page) store (take i all))) (sym c.loop-record.invariant.number))) in
+      so_far_stopped g.W.Outside g.met.W.Outside.fewer_later g.met.W.Outside.printed_now (line_bytes c.args.durable.now.header.directory.page) (number_of c.args.durable.now) store all i lt c.loop-record.durable c.args.outside.now c.loop-record.outside
+      c.loop-record.invariant.only.time so_far c.keep.new.durable c.keep.new.outside c.keep.ensures.goes.only.time c.in-Err.why
+      (step_at g.W.Outside (line_bytes c.args.durable.now.header.directory.page) (number_of c.loop-record.durable) (later (number_of c.args.durable.now) i) (laid_by (line_bytes c.args.durable.now.header.directory.page) store (take i all)) (record_of (line_bytes c.args.durable.now.header.directory.page) c.record-item.result) (get_or all i []) c.keep.new.durable c.loop-record.outside c.keep.new.outside c.keep.result (Err c.in-Err.why)
+      c.loop-record.invariant.number (lines_are (line_bytes c.args.durable.now.header.directory.page) c.args.records.now i c.record-item.result c.loop-record-test.true c.record-item.is) c.in-Err.is steps);
+}

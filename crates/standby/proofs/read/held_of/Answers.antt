@@ -16,16 +16,16 @@ returns-in-Some-2 c =
     )
 
 pub returns-then-at-from : goal.returns-then-at-from
-returns-then-at-from c = λ held rest sized all is.
-    let cut = cut_at 10 c.in-Some.at c.args.text.now (encode_lower held) rest (omega arith) (hex_word held all) (sym c.place_of.ensures.value ∙ c.in-Some.is) is in
-    absurd (omega (arith, cut.0, sized, length-encode_with lower_digits held, c.if-at-from.true, c.from.ensures))
+returns-then-at-from c = λ one that.
+    let cut = cut_at 10 c.in-Some.at c.args.text.now (encode_lower one.0) one.1 (omega arith) (hex_word one.0 that.1) (sym c.place_of.ensures.value ∙ c.in-Some.is) that.2 in
+    absurd (omega (arith, cut.0, that.0, length-encode_with lower_digits one.0, c.if-at-from.true, c.from.ensures))
 
 pub returns-in-None-2 : goal.returns-in-None-2
-returns-in-None-2 c = λ held rest sized all is.
-    let cut = cut_at 10 c.in-Some.at c.args.text.now (encode_lower held) rest (omega arith) (hex_word held all) (sym c.place_of.ensures.value ∙ c.in-Some.is) is in
+returns-in-None-2 c = λ one that.
+    let cut = cut_at 10 c.in-Some.at c.args.text.now (encode_lower one.0) one.1 (omega arith) (hex_word one.0 that.1) (sym c.place_of.ensures.value ∙ c.in-Some.is) that.2 in
     let none = rw c.in-None-2.is at c.in_ok-held-in-Some.ensures in
-    none held all cut.1
+    none one.0 that.1 cut.1
 
 pub returns-in-None : goal.returns-in-None
-returns-in-None c = λ held rest sized all is.
-    uncut 10 c.args.text.now (encode_lower held) rest (omega arith) (hex_word held all) (sym c.place_of.ensures.value ∙ c.in-None.is) is
+returns-in-None c = λ one that.
+    uncut 10 c.args.text.now (encode_lower one.0) one.1 (omega arith) (hex_word one.0 that.1) (sym c.place_of.ensures.value ∙ c.in-None.is) that.2

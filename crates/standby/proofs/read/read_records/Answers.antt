@@ -106,13 +106,12 @@ returns-in-None c =
     let head = head_line bytes c.args.lines c.args.start in
     let records = map (record_of bytes) c.loop-count.records.items in
     let front = head ++ records_text c.args.start records in
-    let none : (count : ℕ) (rest : List ℕ) → count ≤ c.args.lines → c.loop-count.left.now ≢ record_line (next c.loop-count.number) count ++ rest = c.in_default.ensures in
     bad_here bytes c.args.lines c.ranges.lines.fits front c.loop-count.read c.loop-count.number 0 0 (head ++ c.args.text.now) c.loop-count.left.now was.is (omega (arith, was.number)) (omega arith)
     (whole_text head c.args.text.now c.loop-count.left.now c.args.start records was.text)
     (λ line more may same.
     ⊎_elim
     (λ last. c.in-None.ensures more (same ∙ ap (λ (these : List ℕ). these ++ more) (last ∙ sym (c.as_slice.ensures ∙ c.fill_end.ensures))))
-    (λ first. none first.0 more first.1 (same ∙ ap (λ (these : List ℕ). these ++ more) first.2))
+    (λ first. c.in_default.ensures (first.0, more) (first.1, same ∙ ap (λ (these : List ℕ). these ++ more) first.2))
     may)
 
 pub overflow_add-read-in-Ok-2 : goal.overflow_add-read-in-Ok-2

@@ -1,3 +1,4 @@
+use Rattle.standby.proofs.Common.{rules}
 use Rattle.standby.proofs.Lemmas.{⊎_elim, ◌+◌, ◌<◌, List, [], get_or, length, take, refl, sym, ◌∙◌, ap, arith, RecordLine, held_of, asks_none, asks_on, area_bytes, area_more, next_is, record_there, still_shown}
 use Rattle.standby.proofs.shipping.place_behind.Goals as goal
 
@@ -22,5 +23,11 @@ loop-index-preserved g c = record {
       omega (arith, next_is c.args.durable.now.header.directory.page c.args.durable.now.bank.page c.loop-index.place at.0.lines (get_or read.records c.loop-index._index []) c.in-Ok.record still.0.shows.fits.page at.1 counted, before, same, was, area_more c.args.durable.now.bank.page read.records c.loop-index._index lt);
 }
 
-pub returns-clause-place : goal.returns-clause-place
-returns-clause-place g c shown = grind (arith, c.loop-index-test.false, c.loop-index.auto._index-end, c.loop-index.invariant.place shown)
+pub returns : goal.returns
+returns g c = record {
+  asks = search rules;
+  only = search rules;
+  cause = search rules;
+  inside = search rules;
+  place = λ shown. grind (arith, c.loop-index-test.false, c.loop-index.auto._index-end, c.loop-index.invariant.place shown);
+}

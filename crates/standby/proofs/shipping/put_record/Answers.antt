@@ -1,3 +1,4 @@
+use Rattle.standby.proofs.Common.{rules}
 use Rattle.standby.proofs.Lemmas.{◌≡◌, ℕ, ◌+◌, ◌<◌, List, [], ◌++◌, length, take, drop, get_or, refl, sym, subst, ◌∙◌, ap, arith, append-nil, Ok, Option, Some, slice_get, unwrap_or, length-map, take_all, slice_get-get_or, line_bytes, RecordLine, Prints, PrintsBy, Ghosts, feeds, held_of, prints_on, prints_same, prints_stop, Record, IsRecordAt, KeptStore, IsShown, broken, HasBytes, ShipLine, line_line, lines_text, record_line, told, shows_on, one_feed, record_is_line, by_put, prints_by, shows_line, still_shown}
 use Rattle.standby.proofs.ShipLemmas.{all_more, text_more, text_rest, there_still}
 use Rattle.standby.proofs.shipping.put_record.Goals as goal
@@ -9,11 +10,15 @@ counts number count lines is = ap (record_line number) (is ∙ sym (length-map l
 no_record : RecordLine
 no_record = record { line = 0; at = 0; bytes = [] }
 
-pub returns-in-Err-clause-prints : goal.returns-in-Err-clause-prints
-returns-in-Err-clause-prints g c shown at many =
-    let text : c.as_slice.result.now ≡ record_line c.args.number (length (told at.lines)) = c.as_slice.ensures ∙ c.fill_record.ensures ∙ ap (record_line c.args.number) c.from.ensures ∙ counts c.args.number c.args.entry.now.count at.lines many in
-    prints_stop (g.W.Outside.printed c.args.outside.now) (g.W.Outside.printed c.put_line.new.outside) (record_line c.args.number (length (told at.lines))) (lines_text (told at.lines)) broken broken refl refl
-    (subst (λ (bytes : List ℕ). Prints (g.W.Outside.printed c.args.outside.now) (g.W.Outside.printed c.put_line.new.outside) bytes broken) text c.in-Err.ensures.puts.printed)
+pub returns-in-Err : goal.returns-in-Err
+returns-in-Err g c = record {
+  goes = search rules;
+  bytes = search rules;
+  prints = λ shown at many.
+      let text : c.as_slice.result.now ≡ record_line c.args.number (length (told at.lines)) = c.as_slice.ensures ∙ c.fill_record.ensures ∙ ap (record_line c.args.number) c.from.ensures ∙ counts c.args.number c.args.entry.now.count at.lines many in
+      prints_stop (g.W.Outside.printed c.args.outside.now) (g.W.Outside.printed c.put_line.new.outside) (record_line c.args.number (length (told at.lines))) (lines_text (told at.lines)) broken broken refl refl
+      (subst (λ (bytes : List ℕ). Prints (g.W.Outside.printed c.args.outside.now) (g.W.Outside.printed c.put_line.new.outside) bytes broken) text c.in-Err.ensures.puts.printed);
+}
 
 -- what is said of each line where the record lies still is said of the next one
 said : {W : Type 0} (G : Ghosts W) (store : KeptStore) (entry : Record) (i : ℕ) (old mid : W) (shown : IsShown G store old) (at : IsRecordAt (held_of G old) store.bank entry.place) (P : RecordLine → Type 0)
@@ -26,23 +31,24 @@ said G store entry i old mid shown at P many same below each =
     each still.0 that.0 (many ∙ ap (λ (these : List RecordLine). length these) (sym that.1)) (get_or at.lines i no_record)
     (ap (λ (these : List RecordLine). slice_get these i) that.1 ∙ slice_get-get_or at.lines i no_record (omega (arith, many, below)))
 
-pub returns-in-Err-put_one-clause-goes : goal.returns-in-Err-put_one-clause-goes
-returns-in-Err-put_one-clause-goes g c = grind (arith, shows_on g.W.Outside g.met.W.Outside.fewer_later c.args.outside.now c.loop-index.outside c.put_one.new.outside c.loop-index.invariant.only c.put_one.ensures.goes.only)
-
-pub returns-in-Err-put_one-clause-prints : goal.returns-in-Err-put_one-clause-prints
-returns-in-Err-put_one-clause-prints g c shown at many =
-    let G = g.W.Outside in
-    let i = c.loop-index.index in
-    let lt : i < length at.lines = omega (arith, many, c.loop-index-test.true) in
-    let one = get_or at.lines i no_record in
-    let part = said G c.args.durable.now c.args.entry.now i c.args.outside.now c.loop-index.outside shown at (λ (one : RecordLine). Prints (G.printed c.loop-index.outside) (G.printed c.put_one.new.outside) (line_line one.line one.bytes) broken)
-    many c.loop-index.invariant.only.held c.loop-index-test.true c.in-Err-put_one.ensures.prints in
-    let head = record_line c.args.number c.args.entry.now.count in
-    let front = head ++ lines_text (take i (told at.lines)) in
-    prints_same (G.printed c.args.outside.now) (G.printed c.put_one.new.outside) ((front ++ line_line one.line one.bytes) ++ lines_text (drop (i + 1) (told at.lines))) (record_line c.args.number (length (told at.lines)) ++ lines_text (told at.lines)) broken
-    (text_rest head at.lines i one lt (slice_get-get_or at.lines i no_record lt) ∙ ap (λ (first : List ℕ). first ++ lines_text (told at.lines)) (counts c.args.number c.args.entry.now.count at.lines many))
-    (prints_stop (G.printed c.args.outside.now) (G.printed c.put_one.new.outside) (front ++ line_line one.line one.bytes) (lines_text (drop (i + 1) (told at.lines))) broken broken refl refl
-    (prints_on (G.printed c.args.outside.now) (G.printed c.loop-index.outside) (G.printed c.put_one.new.outside) front (line_line one.line one.bytes) tt broken (c.loop-index.invariant.so_far shown at many).0 part))
+pub returns-in-Err-put_one : goal.returns-in-Err-put_one
+returns-in-Err-put_one g c = record {
+  bytes = search rules;
+  goes = grind (arith, shows_on g.W.Outside g.met.W.Outside.fewer_later c.args.outside.now c.loop-index.outside c.put_one.new.outside c.loop-index.invariant.only c.put_one.ensures.goes.only);
+  prints = λ shown at many.
+      let G = g.W.Outside in
+      let i = c.loop-index.index in
+      let lt : i < length at.lines = omega (arith, many, c.loop-index-test.true) in
+      let one = get_or at.lines i no_record in
+      let part = said G c.args.durable.now c.args.entry.now i c.args.outside.now c.loop-index.outside shown at (λ (one : RecordLine). Prints (G.printed c.loop-index.outside) (G.printed c.put_one.new.outside) (line_line one.line one.bytes) broken)
+      many c.loop-index.invariant.only.held c.loop-index-test.true c.in-Err-put_one.ensures.prints in
+      let head = record_line c.args.number c.args.entry.now.count in
+      let front = head ++ lines_text (take i (told at.lines)) in
+      prints_same (G.printed c.args.outside.now) (G.printed c.put_one.new.outside) ((front ++ line_line one.line one.bytes) ++ lines_text (drop (i + 1) (told at.lines))) (record_line c.args.number (length (told at.lines)) ++ lines_text (told at.lines)) broken
+      (text_rest head at.lines i one lt (slice_get-get_or at.lines i no_record lt) ∙ ap (λ (first : List ℕ). first ++ lines_text (told at.lines)) (counts c.args.number c.args.entry.now.count at.lines many))
+      (prints_stop (G.printed c.args.outside.now) (G.printed c.put_one.new.outside) (front ++ line_line one.line one.bytes) (lines_text (drop (i + 1) (told at.lines))) broken broken refl refl
+      (prints_on (G.printed c.args.outside.now) (G.printed c.loop-index.outside) (G.printed c.put_one.new.outside) front (line_line one.line one.bytes) tt broken (c.loop-index.invariant.so_far shown at many).0 part));
+}
 
 pub loop-index-init : goal.loop-index-init
 loop-index-init g c =
@@ -79,14 +85,15 @@ loop-index-preserved g c =
           (said G c.args.durable.now c.args.entry.now i old mid shown at (HasBytes (line_bytes c.args.durable.now.header.directory.page)) many c.loop-index.invariant.only.held c.loop-index-test.true c.in-Ok-put_one.ensures.bytes);
     }
 
-pub returns-clause-bytes : goal.returns-clause-bytes
-returns-clause-bytes g c shown at many = grind (arith, take_all c.loop-index.index at.lines (omega (arith, many, c.loop-index-test.false)), c.loop-index.invariant.bytes shown at many)
-
-pub returns-clause-prints : goal.returns-clause-prints
-returns-clause-prints g c shown at many =
-    let head = record_line c.args.number c.args.entry.now.count in
-    let bare = λ (one : RecordLine). let it : ShipLine = record { line = one.line; bytes = one.bytes } in it in
-    subst (λ (bytes : List ℕ). PrintsBy {T = Unit {0}} g.W.Outside bytes c.args.outside.now c.loop-index.outside (Ok tt))
-    (ap (λ (these : List ShipLine). head ++ lines_text these) (take_all c.loop-index.index (told at.lines) (omega (arith, many, c.loop-index-test.false, length-map at.lines bare)))
-    ∙ ap (λ (first : List ℕ). first ++ lines_text (told at.lines)) (counts c.args.number c.args.entry.now.count at.lines many))
-    (c.loop-index.invariant.so_far shown at many)
+pub returns : goal.returns
+returns g c = record {
+  goes = search rules;
+  prints = λ shown at many.
+      let head = record_line c.args.number c.args.entry.now.count in
+      let bare = λ (one : RecordLine). let it : ShipLine = record { line = one.line; bytes = one.bytes } in it in
+      subst (λ (bytes : List ℕ). PrintsBy {T = Unit {0}} g.W.Outside bytes c.args.outside.now c.loop-index.outside (Ok tt))
+      (ap (λ (these : List ShipLine). head ++ lines_text these) (take_all c.loop-index.index (told at.lines) (omega (arith, many, c.loop-index-test.false, length-map at.lines bare)))
+      ∙ ap (λ (first : List ℕ). first ++ lines_text (told at.lines)) (counts c.args.number c.args.entry.now.count at.lines many))
+      (c.loop-index.invariant.so_far shown at many);
+  bytes = λ shown at many. grind (arith, take_all c.loop-index.index at.lines (omega (arith, many, c.loop-index-test.false)), c.loop-index.invariant.bytes shown at many);
+}

@@ -1,3 +1,4 @@
+use Rattle.standby.proofs.Common.{rules}
 use Rattle.standby.proofs.Lemmas.{◌≡◌, ⊎_elim, ℕ, ◌+◌, ◌-◌, ◌<◌, List, [], ◌++◌, length, map, take, drop, get_or, refl, sym, subst, ◌∙◌, ap, arith, get_or-drop, length-drop, length-map, take-append-drop, take_all, line_bytes, RecordLine, Prints, prints_on, prints_same, prints_stop, prints_none, prints_unput, HasBytes, Ok, PrintsBy, broken, later, record_text, records_text, told, shows_asks, shows_none, shows_on, held_of, IsCounted, IsRecordAt, area_bytes, IsShown, All, ◌%◌, ◌^◌, ◌≤◌, Option, nat_tests, prints_by, quiet_by, all_more, area_more, later_later, next_is, records_more, records_rest, records_split, there_in}
 use Rattle.standby.proofs.shipping.put_records.Given.{Over}
 use Rattle.standby.proofs.shipping.put_records.Goals as goal
@@ -30,23 +31,6 @@ lines_at records passed index le = grind (arith, nat_tests, get_or-drop)
 part_of : (number : ℕ) (records : List (List RecordLine)) (i : ℕ) → (rest : List ℕ) × (records_text number (take i (map told records)) ++ rest ≡ records_text number (map told records))
 part_of number records i = grind (arith, records_split number (take i (map told records)) (drop i (map told records)), take-append-drop i (map told records))
 
-pub returns-in-Err-clause-prints : goal.returns-in-Err-clause-prints
-returns-in-Err-clause-prints g c shown is =
-    let number = later c.args.durable.now.bank.base c.args.passed in
-    let behind = drop c.args.passed shown.shows.read.records in
-    let i = c.loop-index.index - c.args.passed in
-    let rest = part_of number behind i in
-    prints_same (g.W.Outside.printed c.args.outside.now) (g.W.Outside.printed c.record_at.new.outside) (records_text number (take i (map told behind)) ++ rest.0) (records_text number (map told behind)) broken rest.1
-    (prints_on (g.W.Outside.printed c.args.outside.now) (g.W.Outside.printed c.loop-index.outside) (g.W.Outside.printed c.record_at.new.outside) (records_text number (take i (map told behind))) rest.0 tt broken (c.loop-index.invariant.so_far shown is).0
-    (prints_unput (g.W.Outside.printed c.loop-index.outside) (g.W.Outside.printed c.record_at.new.outside) rest.0 broken refl c.record_at.ensures.asks.calls.quiet.same))
-
-pub returns-in-Err-put_record-clause-goes : goal.returns-in-Err-put_record-clause-goes
-returns-in-Err-put_record-clause-goes g c = grind (
-  arith,
-  shows_on g.W.Outside g.met.W.Outside.fewer_later c.args.outside.now c.loop-index.outside c.put_record.new.outside c.loop-index.invariant.only
-      (shows_on g.W.Outside g.met.W.Outside.fewer_later c.loop-index.outside c.record_at.new.outside c.put_record.new.outside (shows_asks g.W.Outside c.loop-index.outside c.record_at.new.outside c.record_at.ensures.asks) c.put_record.ensures.goes.only),
-)
-
 within : (g : Over) (c : goal.In-Ok g) (shown : IsShown g.W.Outside c.args.durable.now c.args.outside.now) → c.loop-index.index < length shown.shows.read.records
 within g c shown = omega (arith, shown.shows.read.count, c.loop-index-test.true, c.records-index-end.ensures)
 
@@ -71,26 +55,34 @@ text_is : (base passed index number : ℕ) (records : List (List RecordLine)) (l
     → record_text number (told lines) ≡ record_text (later (later base passed) (index - passed + 1)) (told (get_or (drop passed records) (index - passed) []))
 text_is base passed index number records lines le is same = grind (arith, nat_tests, lines_at, number_is)
 
-pub returns-in-Err-put_record-clause-prints : goal.returns-in-Err-put_record-clause-prints
-returns-in-Err-put_record-clause-prints g c shown is =
-    let G = g.W.Outside in
-    let old = c.args.outside.now in
-    let here = (goal.at.returns-in-Err-put_record-clause-prints g c).In-Ok in
-    let records = shown.shows.read.records in
-    let index = c.loop-index.index in
-    let i = index - c.args.passed in
-    let number = later c.args.durable.now.bank.base c.args.passed in
-    let behind = drop c.args.passed records in
-    let le : c.args.passed ≤ index = omega (arith, c.loop-index.auto.index) in
-    let at = lies g here shown (c.loop-index.invariant.place shown is) in
-    let text = text_is c.args.durable.now.bank.base c.args.passed index ((c.base.result + (c.from.result + 1)) % 2 ^ 64) records at.1.0.lines le (omega (arith, c.base.ensures, c.from.ensures)) at.1.1.0 in
-    let rest = records_rest number behind i (omega (arith, within g here shown, le, length-drop c.args.passed records)) in
-    let line = record_text (later number (i + 1)) (told (get_or behind i [])) in
-    prints_same (G.printed old) (G.printed c.put_record.new.outside) ((records_text number (take i (map told behind)) ++ line) ++ rest.0) (records_text number (map told behind)) broken rest.1
-    (prints_stop (G.printed old) (G.printed c.put_record.new.outside) (records_text number (take i (map told behind)) ++ line) rest.0 broken broken refl refl
-    (prints_on (G.printed old) (G.printed c.loop-index.outside) (G.printed c.put_record.new.outside) (records_text number (take i (map told behind))) line tt broken (c.loop-index.invariant.so_far shown is).0
-    (subst (λ (printed : Option (List ℕ)). Prints printed (G.printed c.put_record.new.outside) line broken) c.record_at.ensures.asks.calls.quiet.same
-    (subst (λ (bytes : List ℕ). Prints (G.printed c.record_at.new.outside) (G.printed c.put_record.new.outside) bytes broken) text (c.in-Err-put_record.ensures.prints at.0 at.1.0 at.1.1.1)))))
+pub returns-in-Err-put_record : goal.returns-in-Err-put_record
+returns-in-Err-put_record g c = record {
+  bytes = search rules;
+  goes = grind (
+    arith,
+    shows_on g.W.Outside g.met.W.Outside.fewer_later c.args.outside.now c.loop-index.outside c.put_record.new.outside c.loop-index.invariant.only
+        (shows_on g.W.Outside g.met.W.Outside.fewer_later c.loop-index.outside c.record_at.new.outside c.put_record.new.outside (shows_asks g.W.Outside c.loop-index.outside c.record_at.new.outside c.record_at.ensures.asks) c.put_record.ensures.goes.only),
+  );
+  prints = λ shown is.
+      let G = g.W.Outside in
+      let old = c.args.outside.now in
+      let here = (goal.at.returns-in-Err-put_record g c).In-Ok in
+      let records = shown.shows.read.records in
+      let index = c.loop-index.index in
+      let i = index - c.args.passed in
+      let number = later c.args.durable.now.bank.base c.args.passed in
+      let behind = drop c.args.passed records in
+      let le : c.args.passed ≤ index = omega (arith, c.loop-index.auto.index) in
+      let at = lies g here shown (c.loop-index.invariant.place shown is) in
+      let text = text_is c.args.durable.now.bank.base c.args.passed index ((c.base.result + (c.from.result + 1)) % 2 ^ 64) records at.1.0.lines le (omega (arith, c.base.ensures, c.from.ensures)) at.1.1.0 in
+      let rest = records_rest number behind i (omega (arith, within g here shown, le, length-drop c.args.passed records)) in
+      let line = record_text (later number (i + 1)) (told (get_or behind i [])) in
+      prints_same (G.printed old) (G.printed c.put_record.new.outside) ((records_text number (take i (map told behind)) ++ line) ++ rest.0) (records_text number (map told behind)) broken rest.1
+      (prints_stop (G.printed old) (G.printed c.put_record.new.outside) (records_text number (take i (map told behind)) ++ line) rest.0 broken broken refl refl
+      (prints_on (G.printed old) (G.printed c.loop-index.outside) (G.printed c.put_record.new.outside) (records_text number (take i (map told behind))) line tt broken (c.loop-index.invariant.so_far shown is).0
+      (subst (λ (printed : Option (List ℕ)). Prints printed (G.printed c.put_record.new.outside) line broken) c.record_at.ensures.asks.calls.quiet.same
+      (subst (λ (bytes : List ℕ). Prints (G.printed c.record_at.new.outside) (G.printed c.put_record.new.outside) bytes broken) text (c.in-Err-put_record.ensures.prints at.0 at.1.0 at.1.1.1)))));
+}
 
 pub loop-index-preserved : goal.loop-index-preserved
 loop-index-preserved g c =
@@ -110,7 +102,7 @@ loop-index-preserved g c =
           (shows_on G g.met.W.Outside.fewer_later loop mid c.put_record.new.outside (shows_asks G loop mid c.record_at.ensures.asks) c.put_record.ensures.goes.only);
       disk = c.in-Ok-put_record.ensures.goes.ends.0 ∙ c.in-Ok.ensures.cause.done ∙ c.loop-index.invariant.disk;
       put = c.in-Ok-put_record.ensures.goes.ends.1 ∙ c.record_at.ensures.asks.calls.put ∙ c.loop-index.invariant.put;
-      inside = ⊎_elim (λ none. omega (arith, none.1, c.requires.some)) (λ some. some.1) c.in-Ok.ensures.found.fits;
+      inside = ⊎_elim (λ none. omega (arith, none.1, c.requires.may.some)) (λ some. some.1) c.in-Ok.ensures.found.fits;
       place = λ shown is.
           let records = shown.shows.read.records in
           let place = c.loop-index.invariant.place shown is in
@@ -133,19 +125,31 @@ loop-index-preserved g c =
           (all_more Each behind i [] (omega (arith, within g here shown, le, length-drop c.args.passed shown.shows.read.records)) (c.loop-index.invariant.bytes shown is) (subst Each (at.1.1.0 ∙ lines_at shown.shows.read.records c.args.passed index le) (c.in-Ok-put_record.ensures.bytes at.0 at.1.0 at.1.1.1)));
     }
 
-pub returns-clause-bytes : goal.returns-clause-bytes
-returns-clause-bytes g c shown is = grind (arith, take_all (c.loop-index.index - c.args.passed) (drop c.args.passed shown.shows.read.records) (omega (arith, shown.shows.read.count, c.loop-index-test.false, c.records-index-end.ensures, length-drop c.args.passed shown.shows.read.records)), c.loop-index.invariant.bytes shown is)
-
-pub returns-clause-prints : goal.returns-clause-prints
-returns-clause-prints g c shown is =
-    let number = later c.args.durable.now.bank.base c.args.passed in
-    let behind = drop c.args.passed shown.shows.read.records in
-    subst (λ (bytes : List ℕ). PrintsBy {T = Unit {0}} g.W.Outside bytes c.args.outside.now c.loop-index.outside (Ok tt))
-    (ap (records_text number) (take_all (c.loop-index.index - c.args.passed) (map told behind) (omega (arith, shown.shows.read.count, c.loop-index-test.false, c.records-index-end.ensures, length-map behind told, length-drop c.args.passed shown.shows.read.records))))
-    (c.loop-index.invariant.so_far shown is)
+pub returns : goal.returns
+returns g c = record {
+  goes = search rules;
+  prints = λ shown is.
+      let number = later c.args.durable.now.bank.base c.args.passed in
+      let behind = drop c.args.passed shown.shows.read.records in
+      subst (λ (bytes : List ℕ). PrintsBy {T = Unit {0}} g.W.Outside bytes c.args.outside.now c.loop-index.outside (Ok tt))
+      (ap (records_text number) (take_all (c.loop-index.index - c.args.passed) (map told behind) (omega (arith, shown.shows.read.count, c.loop-index-test.false, c.records-index-end.ensures, length-map behind told, length-drop c.args.passed shown.shows.read.records))))
+      (c.loop-index.invariant.so_far shown is);
+  bytes = λ shown is. grind (arith, take_all (c.loop-index.index - c.args.passed) (drop c.args.passed shown.shows.read.records) (omega (arith, shown.shows.read.count, c.loop-index-test.false, c.records-index-end.ensures, length-drop c.args.passed shown.shows.read.records)), c.loop-index.invariant.bytes shown is);
+}
 
 pub put_record-requires-clause-store : goal.put_record-requires-clause-store
 put_record-requires-clause-store g c = grind arith
 
-pub returns-in-Err-clause-goes : goal.returns-in-Err-clause-goes
-returns-in-Err-clause-goes g c = grind (arith, shows_on g.W.Outside g.met.W.Outside.fewer_later c.args.outside.now c.loop-index.outside c.record_at.new.outside c.loop-index.invariant.only (shows_asks g.W.Outside c.loop-index.outside c.record_at.new.outside c.record_at.ensures.asks))
+pub returns-in-Err : goal.returns-in-Err
+returns-in-Err g c = record {
+  bytes = search rules;
+  goes = grind (arith, shows_on g.W.Outside g.met.W.Outside.fewer_later c.args.outside.now c.loop-index.outside c.record_at.new.outside c.loop-index.invariant.only (shows_asks g.W.Outside c.loop-index.outside c.record_at.new.outside c.record_at.ensures.asks));
+  prints = λ shown is.
+      let number = later c.args.durable.now.bank.base c.args.passed in
+      let behind = drop c.args.passed shown.shows.read.records in
+      let i = c.loop-index.index - c.args.passed in
+      let rest = part_of number behind i in
+      prints_same (g.W.Outside.printed c.args.outside.now) (g.W.Outside.printed c.record_at.new.outside) (records_text number (take i (map told behind)) ++ rest.0) (records_text number (map told behind)) broken rest.1
+      (prints_on (g.W.Outside.printed c.args.outside.now) (g.W.Outside.printed c.loop-index.outside) (g.W.Outside.printed c.record_at.new.outside) (records_text number (take i (map told behind))) rest.0 tt broken (c.loop-index.invariant.so_far shown is).0
+      (prints_unput (g.W.Outside.printed c.loop-index.outside) (g.W.Outside.printed c.record_at.new.outside) rest.0 broken refl c.record_at.ensures.asks.calls.quiet.same));
+}
