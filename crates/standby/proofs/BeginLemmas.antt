@@ -37,10 +37,7 @@ before_next bytes bound least lines [] i are lt is = λ k d below. absurd (omega
 before_next bytes bound least [] (first ∷ begun) i are lt is = absurd (omega (arith, lt))
 before_next bytes bound least (line ∷ lines) (first ∷ begun) zero are lt is = let no : told (first ∷ begun) ≡ [] = is in cc
 before_next bytes bound least (line ∷ lines) (first ∷ begun) (suc i) are lt is =
-    let rest : told begun ≡ take i lines = cc in
-    let same : first.line ≡ line.line = cc in
-    let above = line_above bytes bound (line.line + 1) lines i are.4 (omega (arith, lt)) in
-    All-cons (λ (one : RecordLine). one.line < (get_or lines i no_line).line) first begun (omega (arith, same, above)) (before_next bytes bound (line.line + 1) lines begun i are.4 (omega (arith, lt)) rest)
+    grind (arith, nat_tests, line_above bytes bound (line.line + 1) lines i are.4, All-cons (λ (one : RecordLine). one.line < (get_or lines i no_line).line) first begun, before_next bytes bound (line.line + 1) lines begun i are.4)
 
 -- a record has room for one line more where it has fewer than the most
 pub room_for : (page : PageSize) (bank_bytes count : ℕ) → count < (bank_bytes - 12) / entry_bytes page → record_bytes page (count + 1) + 1 ≤ bank_bytes

@@ -1,5 +1,5 @@
 -- A call over an opening that follows a text.
-use Rattle.standby.proofs.Common.{◌≡◌, inl, inr, ℕ, ◌+◌, ◌-◌, ◌^◌, ◌<◌, ◌≤◌, List, [], ◌++◌, length, refl, sym, ◌∙◌, ap, subst, arith, IsSome, IsTrue, ◌⊎◌, Option, Result, unwrap_or, take_all, length-drop, Ghosts, Prints, FewerLater, Leaves, OnlyAsks, held_of, leaves_on, OpenFault, IsStoreOpenFault, KeptStore, number_of, Shows, TracksStore, IsAmong, behind, due, laid_by, Content, ShipLine, later, call, status_of_open, Status, FlatStore, Header, Elapses, prints_on, prints_same, prints_unput, KeptBank, shown_stands, bank_behind, Follows, IsAtNumber, broken, followed_text, kept_text, well, Followed, Stands, stands, Done, DiskFault, PutFault}
+use Rattle.standby.proofs.Common.{nat_tests, ◌≡◌, inl, inr, ℕ, ◌+◌, ◌-◌, ◌^◌, ◌<◌, ◌≤◌, List, [], ◌++◌, length, refl, sym, ◌∙◌, ap, subst, arith, IsSome, IsTrue, ◌⊎◌, Option, Result, unwrap_or, take_all, length-drop, Ghosts, Prints, FewerLater, Leaves, OnlyAsks, held_of, leaves_on, OpenFault, IsStoreOpenFault, KeptStore, number_of, Shows, TracksStore, IsAmong, behind, due, laid_by, Content, ShipLine, later, call, status_of_open, Status, FlatStore, Header, Elapses, prints_on, prints_same, prints_unput, KeptBank, shown_stands, bank_behind, Follows, IsAtNumber, broken, followed_text, kept_text, well, Followed, Stands, stands, Done, DiskFault, PutFault}
 use Rattle.standby.proofs.PutLemmas.{PrintedNow}
 use Rattle.store_format.proofs.Sound.{stood_header}
 use Rattle.standby.proofs.TellLemmas.{told_front}
@@ -42,10 +42,8 @@ module _ {W : Type 0} (G : Ghosts W) (fewer_later : FewerLater G) (printed_now :
   not_opened fault now is why = subst (OnStore G content before mid) (sym is) (by fault why)
     where
       by : (fault : OpenFault) → IsStoreOpenFault G before mid fault → OnStore G content before mid (status_of_open fault)
-      by (open_fault.NotAStore offset) why = λ told. inl (why told)
-      by (open_fault.Damaged offset) why = λ told. inr (why told)
       by open_fault.DiskFault why = (inl asks, unopened)
-      by open_fault.Memory why = tt
+      by _ why = grind (arith, nat_tests)
 
   module _ (durable kept : KeptStore) (shows : IsSome (G.held before) → Shows (held_of G before) durable) (tracks : IsTrue (G.is_honest before) → IsSome (G.held before) → TracksStore G durable mid)
       (after : W) (time : Elapses G.moment G.left_since mid after) where
@@ -54,10 +52,7 @@ module _ {W : Type 0} (G : Ghosts W) (fewer_later : FewerLater G) (printed_now :
     Goes how = (store : FlatStore) → TracksStore G durable mid → stands (held_of G mid) ≡ Stands (number_of durable) store → Follows G content.line_bytes (number_of durable) store (due content (number_of durable)) kept mid after how
 
     number_is : (number : ℕ) (store : FlatStore) → TellsStore G before number store → number ≡ number_of durable
-    number_is number store at =
-        let shown = shown_stands (held_of G before) durable (shows at.told) in
-        let same : Stands number store ≡ Stands (number_of durable) shown.0 = sym at.stood ∙ shown.1 in
-        cc
+    number_is number store at = grind (arith, nat_tests, at.stood, shown_stands (held_of G before) durable (shows at.told))
 
     -- of the number that stood
     from_number : (now : Status) → ((store : FlatStore) → TellsStore G before (number_of durable) store → HasFollowed G content (number_of durable) store (call before after [] now)) → FollowsOn G content before after now
@@ -88,8 +83,7 @@ module _ {W : Type 0} (G : Ghosts W) (fewer_later : FewerLater G) (printed_now :
 
     -- the store that is kept, by its header and its bank
     kept_is : kept.header ≡ durable.header → (bank : KeptBank) → kept.bank ≡ bank → kept ≡ record durable { bank = bank }
-    kept_is header_is bank bank_is =
-        ap (λ (header : Header). let it : KeptStore = record { header = header; bank = kept.bank } in it) header_is ∙ ap (λ (those : KeptBank). let it : KeptStore = record { header = durable.header; bank = those } in it) bank_is
+    kept_is header_is bank bank_is = grind (arith, nat_tests)
 
     pub followed_done : content.start < 2 ^ 64 → IsAmong content (number_of durable) → kept.header ≡ durable.header → kept.bank ≡ bank_behind durable.bank (due content (number_of durable)) → Goes Done → FollowsOn G content before after status.Done
     followed_done start among header_is bank_is goes = from_number status.Done (λ store at.

@@ -108,6 +108,4 @@ same_byte byte stop is = grind (arith, nat_tests)
 
 -- a text by the place of a byte in it
 pub parts_at : (stop at : ℕ) (text : List ℕ) → position (λ byte. byte == stop) text ≡ Some at → text ≡ take at text ++ stop ∷ drop (at + 1) text
-parts_at stop at text place =
-    let found = position-Some (λ (byte : ℕ). byte == stop) text at 0 place in
-    split_at text at 0 found.0 ∙ ap (λ (byte : ℕ). take at text ++ byte ∷ drop (at + 1) text) (same_byte (get_or text at 0) stop found.1)
+parts_at stop at text place = grind (arith, position-Some (λ (byte : ℕ). byte == stop) text at 0 place, split_at text at 0, same_byte)

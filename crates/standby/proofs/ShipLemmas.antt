@@ -48,11 +48,7 @@ later_later base passed more = omega arith
 -- records, and one more
 pub records_append : (number : ℕ) (xs : List (List ShipLine)) (lines : List ShipLine) → records_text number (xs ++ lines ∷ []) ≡ records_text number xs ++ record_text (later number (length xs + 1)) lines
 records_append number [] lines = append-nil (record_text (next number) lines)
-records_append number (x ∷ xs) lines =
-    let same : later (next number) (length xs + 1) ≡ later number (length (x ∷ xs) + 1) = omega arith in
-    ap (λ (rest : List ℕ). record_text (next number) x ++ rest) (records_append (next number) xs lines)
-    ∙ sym (append_assoc (record_text (next number) x) (records_text (next number) xs) (record_text (later (next number) (length xs + 1)) lines))
-    ∙ ap (λ (n : ℕ). (record_text (next number) x ++ records_text (next number) xs) ++ record_text n lines) same
+records_append number (x ∷ xs) lines = grind (arith, nat_tests, records_append (next number) xs lines, append_assoc)
 
 -- records, and others behind them
 pub records_split : (number : ℕ) (xs ys : List (List ShipLine)) → (rest : List ℕ) × (records_text number (xs ++ ys) ≡ records_text number xs ++ rest)

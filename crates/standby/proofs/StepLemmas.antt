@@ -20,11 +20,7 @@ one_over begun lines standing number bytes store sized same is = grind (arith, n
 
 -- the lines of what stands are as long as those of the store that is shown
 pub sized : (held : List ℕ) (kept : KeptStore) (number : ℕ) (store : FlatStore) → Shows held kept → stands held ≡ Stands number store → line_bytes kept.header.directory.page ≡ line_bytes store.directory.page
-sized held kept number store shows stood =
-    let is = stands_is held kept.header kept.bank.which kept.bank.base kept.bank.gate shows.read.records (shown_store held kept shows) in
-    let same : Stands number store ≡ Stands ((kept.bank.base + length shows.read.records) % 2 ^ 64) (record { directory = kept.header.directory; bytes = fold (format.laid kept.header.directory.page) (home_of held kept.header) shows.read.records }) = sym stood ∙ is in
-    let flat : store ≡ record { directory = kept.header.directory; bytes = fold (format.laid kept.header.directory.page) (home_of held kept.header) shows.read.records } = cc in
-    ap (λ (that : FlatStore). line_bytes that.directory.page) (sym flat)
+sized held kept number store shows stood = grind (arith, nat_tests, stands_is held kept.header kept.bank.which kept.bank.base kept.bank.gate shows.read.records (shown_store held kept shows))
 
 pub tracks_begun : {W : Type 0} (G : Ghosts W) (store now : KeptStore) (lines : List RecordLine) (outside : W) → now ≡ with_begun store lines → TracksStore G store outside → TracksStore G now outside
 tracks_begun G store now lines outside is tracks = grind (arith, tracks.sure, shows_begun store lines (held_of G outside) tracks.shows)
@@ -54,29 +50,12 @@ module _ {W : Type 0} (G : Ghosts W) (fewer_later : FewerLater G) (printed_now :
       let kept = subst (λ (these : List ℕ). Puts {T = Unit {0}} G these mid after well) is puts in
       let stands_more = more ∙ one_over begun lines (stands (held_of G before)) number bytes store sized same stood in
       let sure = sure_puts G printed_now fewer_later (kept_line (next number)) mid after well kept tracks.sure in
-      record {
-        crash = in_put after well tracks.sure stands_more kept;
-        ends = (
-          record { sure = sure.0; shows = subst (λ (held : List ℕ). Shows held durable) (sym sure.1) tracks.shows },
-          ap stands sure.1 ∙ stands_more,
-          subst (λ (those : Option (List ℕ)). Prints those (G.printed after) (kept_line (next number)) well) calls.quiet.same kept.printed,
-          λ some. kept.once.done (subst (λ (those : Option (List ℕ)). IsSome those) (sym calls.quiet.same) some) ∙ ap (λ (n : ℕ). n + 1) calls.puts,
-        );
-      }
+      grind (arith, nat_tests, in_put after well tracks.sure stands_more kept, sure, tracks.shows, stands_more, kept.printed, kept.once.done, calls.quiet.same, calls.puts)
   step_kept durable after line (Err why) tracks more is only puts =
       let kept = subst (λ (these : List ℕ). Puts {T = Unit {0}} G these mid after broken) is puts in
       let stands_more = more ∙ one_over begun lines (stands (held_of G before)) number bytes store sized same stood in
       let sure = sure_puts G printed_now fewer_later (kept_line (next number)) mid after broken kept tracks.sure in
-      let put_is : why ≡ PutFault = cc in
-      let stopped : Steps G bytes number store lines durable before after (Err PutFault) = record {
-        crash = in_put after broken tracks.sure stands_more kept;
-        ends = (
-          record { sure = sure.0; shows = subst (λ (held : List ℕ). Shows held durable) (sym sure.1) tracks.shows },
-          ap stands sure.1 ∙ stands_more,
-          subst (λ (those : Option (List ℕ)). Prints those (G.printed after) (kept_line (next number)) broken) calls.quiet.same kept.printed,
-        );
-      } in
-      subst (λ (how : Followed). Steps G bytes number store lines durable before after (Err how)) (sym put_is) stopped
+      grind (arith, nat_tests, in_put after broken tracks.sure stands_more kept, sure, tracks.shows, stands_more, kept.printed, calls.quiet.same, only)
 
 -- what a commit may leave, by the record that is begun
 pub either_begun : {W : Type 0} (G : Ghosts W) (store now : KeptStore) (begun : List RecordLine) (held : List ℕ) (before mid : W) → now ≡ with_begun store begun → Leaves G (IsEither (begun_of now.bank) held) before mid → Leaves G (IsEither begun held) before mid

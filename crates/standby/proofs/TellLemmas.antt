@@ -226,29 +226,12 @@ module _ {W : Type 0} (G : Ghosts W) (fewer_later : FewerLater G) (printed_now :
     ended line (Err why) is only puts =
         let put = subst (λ (these : List ℕ). Puts {T = Unit {0}} G these mid after broken) is puts in
         let sure = sure_puts G printed_now fewer_later last mid after broken put keeps.ends.0.tracks.sure in
-        let put_is : why ≡ PutFault = cc in
-        let stopped : Follows G bytes number store records durable before after PutFault = record {
-          crash = end_crash broken put;
-          ends = (
-            record {
-              count = length records;
-              few = omega arith;
-              tracks = record { sure = sure.0; shows = subst (λ (held : List ℕ). Shows held durable) (sym sure.1) keeps.ends.0.tracks.shows };
-              stood = ap stands sure.1 ∙ keeps.ends.0.stood ∙ ap (λ (these : List (List ShipLine)). Stands (later number (length records)) (laid_by bytes store these)) (sym (take_all (length records) records (omega arith)));
-            },
-            prints_on (G.printed before) (G.printed mid) (G.printed after) (kept_text number (length records)) last tt broken keeps.ends.1 put.printed,
-          );
-        } in
-        subst (λ (how : Followed). Follows G bytes number store records durable before after how) (sym put_is) stopped
+        let printed = prints_on (G.printed before) (G.printed mid) (G.printed after) (kept_text number (length records)) last tt broken keeps.ends.1 put.printed in
+        grind (arith, nat_tests, end_crash broken put, sure, keeps.ends.0.tracks.shows, keeps.ends.0.stood, printed, take_all (length records) records (omega arith))
 
   -- what stopped in a record stops there
   pub stopped_early : (durable : KeptStore) (before after : W) (why : Followed) → (why ≡ Done → ⊥) → Keeps G bytes number store records durable before after why → Follows G bytes number store records durable before after why
-  stopped_early durable before after Done differs keeps = absurd (differs refl)
-  stopped_early durable before after PutFault differs keeps = record {
-    crash = keeps.crash;
-    ends = (keeps.ends.0, prints_stop (G.printed before) (G.printed after) (kept_text number (length records)) (end_line (later number (length records))) broken broken refl refl keeps.ends.1);
-  }
-  stopped_early durable before after _ differs keeps = record { crash = keeps.crash; ends = keeps.ends }
+  stopped_early durable before after why differs keeps = grind (arith, nat_tests, prints_stop (G.printed before) (G.printed after) (kept_text number (length records)) (end_line (later number (length records))) broken broken refl refl)
 
 -- a fault isn't the end
 pub not_done : (why : Followed) → IsStopped why → why ≡ Done → ⊥
@@ -257,12 +240,7 @@ not_done why stopped is = grind (arith, nat_tests)
 -- a fault comes of a text that fits
 pub found_stopped : (header : Header) (content : Content) (from : ℕ) (why : Followed)
     → IsStopped why → FoundOf header content from Done → FoundOf header content from why
-found_stopped header content from DiskFault stopped fits = fits
-found_stopped header content from PutFault stopped fits = fits
-found_stopped header content from Done stopped fits = fits
-found_stopped header content from Geometry stopped fits = absurd stopped
-found_stopped header content from NotKept stopped fits = absurd stopped
-found_stopped header content from (Long number) stopped fits = absurd stopped
+found_stopped header content from why stopped fits = grind (arith, nat_tests)
 
 -- nothing is called
 pub follows_none : {W : Type 0} (G : Ghosts W) (fewer_later : FewerLater G) (printed_now : PrintedNow G) (bytes number : ℕ) (store : FlatStore) (records : List (List ShipLine)) (durable : KeptStore) (now : W) (how : Followed)
