@@ -29,10 +29,7 @@ module _ (left left_now : Option (List ℕ)) (has : HasBundle left) where
       stands_well (part_of has.text has.bundle.opening) at has.opening (subst (λ (bundle : Bundle). IsFaultAt (part_of has.text bundle.opening) at) (is_bundle bad.bundle bad.parts) bad.fault)
 
   some_job : (line kind : ℕ) → IsNoJob has.text line kind → ⊥
-  some_job line kind none =
-      let given = has.job.1 in
-      let same = ap (λ (bundle : Bundle). job_of (part_of has.text bundle.job)) (is_bundle none.bundle none.parts) in
-      let wrong = none.fault in cc
+  some_job line kind none = grind (arith, nat_tests, has.job, is_bundle none.bundle none.parts, none.fault)
 
 module _ {W : Type 0} (G : Ghosts W) (left left_now : Option (List ℕ)) (before after : W) (text : List ℕ) (whole : IsWholeBundle left left_now text) where
   -- an audit of it ends well where no put fails
@@ -45,24 +42,18 @@ module _ {W : Type 0} (G : Ghosts W) (left left_now : Option (List ℕ)) (before
           (subst (λ (bundle : Bundle). IsFaultAt (part_of can.has.text bundle.closing) at) (is_bundle left left_now can.has bad.bundle bad.opened.parts) bad.fault)
 
       by : (now : Status) → AuditedBy G can.has.text before after now → IsOfAudit now → (now ≡ status.PutFault → ⊥) → (now ≡ status.Done) ⊎ (now ≡ status.NoMemory)
-      by status.Done did of put = inl refl
-      by status.NoMemory did of put = inr refl
-      by status.PutFault did of put = absurd (put refl)
       by (status.Bundle part at) (inl wrong, same) of put = absurd (no_wrong left left_now can.has part at wrong)
       by (status.Bundle part at) (inr (last, bad), same) of put = absurd (no_closing at bad)
       by (status.Job line kind) (none, same) of put = absurd (some_job left left_now can.has line kind none)
-      by _ (none, same) of put = absurd none
+      by _ did of put = grind (arith, nat_tests)
 
   -- and so does a trace
   pub trace_ends : (activation : ℕ) (can : CanTrace activation left) (now : Status) → TracedBy G text activation before after now → IsOfTrace now → (now ≡ status.PutFault → ⊥) → (now ≡ status.Done) ⊎ (now ≡ status.NoMemory)
   trace_ends activation can now did of put = by now (subst (λ (those : List ℕ). TracedBy G those activation before after now) (is_text left left_now can.has text whole) did) of put
     where
       by : (now : Status) → TracedBy G can.has.text activation before after now → IsOfTrace now → (now ≡ status.PutFault → ⊥) → (now ≡ status.Done) ⊎ (now ≡ status.NoMemory)
-      by status.Done did of put = inl refl
-      by status.NoMemory did of put = inr refl
-      by status.PutFault did of put = absurd (put refl)
       by (status.Bundle part at) (wrong, same) of put = absurd (no_wrong left left_now can.has part at wrong)
       by (status.Job line kind) (none, same) of put = absurd (some_job left left_now can.has line kind none)
       by status.NoCommit (found, same) of put = absurd (let is = can.traced fault.NoCommit found in cc)
       by (status.NotSerial place) (found, same) of put = absurd (let is = can.traced (fault.NotSerial place) found in cc)
-      by _ (none, same) of put = absurd none
+      by _ did of put = grind (arith, nat_tests)

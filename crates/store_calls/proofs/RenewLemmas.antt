@@ -17,11 +17,7 @@ fewer_pages (segment ∷ segments) range =
 
 still_in_range : (segments : List (ℕ × ℕ)) → All IsInRange segments → All IsInRange (widened_segments segments)
 still_in_range [] range = All-nil IsInRange
-still_in_range (segment ∷ segments) range =
-    let here = All-head IsInRange segment segments range in
-    All-cons IsInRange (segment.0, (segment.1 + 1) / 2) (widened_segments segments)
-    (here.0, here.1, omega (arith, here.2), omega (arith, here.3))
-    (still_in_range segments (All-tail IsInRange segment segments range))
+still_in_range (segment ∷ segments) range = grind (arith, nat_tests, All-head IsInRange segment segments range, All-cons IsInRange (segment.0, (segment.1 + 1) / 2) (widened_segments segments), still_in_range segments (All-tail IsInRange segment segments range))
 
 pub widened_legal : (segments : List (ℕ × ℕ)) → IsLegal segments → IsLegal (widened_segments segments)
 widened_legal segments legal = grind (arith, nat_tests, length-map, still_in_range, named_same, fewer_pages)
@@ -29,11 +25,7 @@ widened_legal segments legal = grind (arith, nat_tests, length-map, still_in_ran
 -- one segment more
 pub widened_more : (segments : List (ℕ × ℕ)) (i : ℕ) (d : ℕ × ℕ) → i < length segments
     → widened_segments (take (i + 1) segments) ≡ widened_segments (take i segments) ++ ((get_or segments i d).0, ((get_or segments i d).1 + 1) / 2) ∷ []
-widened_more segments i d below =
-    let next : i + 1 ≡ suc i = omega arith in
-    ap (λ (n : ℕ). widened_segments (take n segments)) next
-    ∙ ap widened_segments (take-suc segments i d below)
-    ∙ map-append (λ (segment : ℕ × ℕ). (segment.0, (segment.1 + 1) / 2)) (take i segments) (get_or segments i d ∷ [])
+widened_more segments i d below = grind (arith, nat_tests, take-suc segments i d below, map-append)
 
 -- and have as many bytes as its pages
 pub length-widened : (segments : List (ℕ × ℕ)) (bytes : List ℕ) → length bytes ≡ sum_by (bytes_of 2048) segments → length (widened_bytes segments bytes) ≡ sum_by (bytes_of 4096) (widened_segments segments)

@@ -28,8 +28,7 @@ module _ {W : Type 0} (G : Ghosts W) (fewer_later : FewerLater G) where
 
 -- bytes from a place on, and those behind them
 pub bytes_on : (standing : Standing) (at first second : ℕ) → bytes_in standing at (first + second) ≡ bytes_in standing at first ++ bytes_in standing (at + first) second
-bytes_on (Stands number store) at first second = take-add first second (drop at store.bytes) ∙ ap (λ (these : List ℕ). take first (drop at store.bytes) ++ take second these) (drop-drop first at store.bytes)
-bytes_on _ at first second = refl
+bytes_on standing at first second = grind (arith, nat_tests, take-add, drop-drop)
 
 pub none_in : (standing : Standing) (at : ℕ) → bytes_in standing at 0 ≡ []
 none_in standing at = grind (arith, nat_tests)
@@ -122,9 +121,7 @@ module _ {W : Type 0} (G : Ghosts W) (fewer_later : FewerLater G) (store : KeptS
   }
     where
       stops : (now : Status) → G.put_faults mid ≡ G.put_faults old → AsksAndPuts G old mid → StopsBy G mid new now → StopsBy G old new now
-      stops status.DiskFault same only why = omega (arith, why, only.disk)
-      stops status.PutFault same only why = (omega (arith, why.0, same), why.1 ∙ before.asked)
-      stops _ same only why = absurd why
+      stops now same only why = grind (arith, nat_tests, only.disk, before.asked)
 
 -- nothing was printed yet
 pub nothing_put : {W : Type 0} (G : Ghosts W) (fewer_later : FewerLater G) (store : KeptStore) (at offset : ℕ) (now : W) → PutsBytes G store at offset 0 now now (Ok tt)
@@ -146,26 +143,10 @@ module _ {W : Type 0} (G : Ghosts W) (fewer_later : FewerLater G) (store : KeptS
   put-rows result prints shown = grind (arith, nat_tests)
 
   pub part_put : G.disk_faults mid ≡ G.disk_faults old → Puts G (row_lines offset bytes) mid new went → PutsTimes G (div_ceil (length bytes) 16) mid new went → PutsBytes G store at offset count old new (Ok tt)
-  part_put same puts times = record {
-    only = shows_on G fewer_later old mid new (shows_asks G old mid asks) (shows_line G fewer_later (row_lines offset bytes) mid new went puts);
-    printed = put-rows (Ok tt) puts.printed;
-    times = λ told.
-        times (subst (λ (these : Option (List ℕ)). IsSome these) (sym asks.calls.quiet.same) told)
-        ∙ ap (λ (n : ℕ). n + div_ceil (length bytes) 16) asks.calls.puts ∙ ap (λ (n : ℕ). (G.moment old).puts + div_ceil n 16) long;
-    unfailed = puts.only.cause.done ∙ asks.calls.put;
-    asked = puts.only.disk ∙ same;
-    stops = tt;
-  }
+  part_put same puts times = grind (arith, nat_tests, shows_on G fewer_later old mid new (shows_asks G old mid asks) (shows_line G fewer_later (row_lines offset bytes) mid new went puts), put-rows (Ok tt) puts.printed, times, asks.calls.quiet.same, asks.calls.puts, long, puts.only.cause.done, asks.calls.put, puts.only.disk)
 
   pub part_failed : G.disk_faults mid ≡ G.disk_faults old → (failed : Failed) → Puts G (row_lines offset bytes) mid new (stopped failed) → PutsBytes G store at offset count old new (Err status.PutFault)
-  part_failed same failed puts = record {
-    only = shows_on G fewer_later old mid new (shows_asks G old mid asks) (shows_line G fewer_later (row_lines offset bytes) mid new (stopped failed) puts);
-    printed = λ shown. prints_broken (stopped failed) broke refl refl (G.printed old) (G.printed new) (row_lines offset (bytes_in (stands (held_of G old)) at count)) (put-rows (Err failed) puts.printed shown);
-    times = tt;
-    unfailed = tt;
-    asked = tt;
-    stops = let rose = puts.only.cause.failed in (omega (arith, rose, asks.calls.put), puts.only.disk ∙ same);
-  }
+  part_failed same failed puts = grind (arith, nat_tests, shows_on G fewer_later old mid new (shows_asks G old mid asks) (shows_line G fewer_later (row_lines offset bytes) mid new (stopped failed) puts), put-rows (Err failed) puts.printed, puts.only.cause.failed, asks.calls.put, puts.only.disk, prints_broken (stopped failed) broke refl refl (G.printed old) (G.printed new) (row_lines offset (bytes_in (stands (held_of G old)) at count)))
 
 -- what stands has pages of this size
 abbrev pub HasPages : Standing → PageSize → Type 0
@@ -205,8 +186,7 @@ page_whole standing size has page = grind (arith, nat_tests)
 
 -- bytes of two pages
 pub in_two_pages : (standing : Standing) (at here rest count : ℕ) (front back : List ℕ) → here + rest ≡ count → front ≡ bytes_in standing at here → back ≡ bytes_in standing (at + here) rest → front ++ back ≡ bytes_in standing at count
-in_two_pages standing at here rest count front back all is_front is_back =
-    ap (λ (these : List ℕ). these ++ back) is_front ∙ ap (λ (these : List ℕ). bytes_in standing at here ++ these) is_back ∙ sym (bytes_on standing at here rest) ∙ ap (bytes_in standing at) all
+in_two_pages standing at here rest count front back all is_front is_back = cc (all, is_front, is_back, bytes_on standing at here rest)
 
 -- bytes that a store shows stand for one with its directory
 stood : (held : List ℕ) (store : KeptStore) → Shows held store → (number : ℕ) × (flat : FlatStore) × (stands held ≡ Stands number flat) × (flat.directory ≡ store.header.directory)
@@ -229,10 +209,7 @@ module _ {W : Type 0} (G : Ghosts W) (fewer_later : FewerLater G) (printed_now :
   }
     where
       by : (fault : OpenFault) → IsStoreOpenFault G before start fault → ShownBy G range before start (status_of_open fault)
-      by (open_fault.NotAStore offset) why = (asks, λ told. inl (why told))
-      by (open_fault.Damaged offset) why = (asks, λ told. inr (why told))
-      by open_fault.DiskFault why = (λ told number flat stood. prints_unput (G.printed before) (G.printed start) (rows_of flat range) (Err (record {})) refl asks.calls.quiet.same, inl asks.calls.quiet.same)
-      by open_fault.Memory why = asks
+      by fault why = grind (arith, nat_tests, prints_unput, asks.calls.quiet.same)
 
   module _ (store : KeptStore) (shows : IsSome (G.held before) → Shows (held_of G before) store) (tracks : IsTrue (G.is_honest before) → IsSome (G.held before) → TracksStore G store start)
       (no_fault : G.disk_faults start ≡ G.disk_faults before) where
@@ -280,8 +257,7 @@ module _ {W : Type 0} (G : Ghosts W) (fewer_later : FewerLater G) (printed_now :
           from_start result (subst (λ (these : List ℕ). PutsDone G (row_lines range.from these) start after result) bytes (puts.printed shown))
         where
           from_start : (result : Result (Unit {0}) Status) → PutsDone G (rows_of flat range) start after result → PutsDone G (rows_of flat range) before after result
-          from_start (Ok done) prints = subst (λ (these : Option (List ℕ)). Prints {T = Unit {0}} these (G.printed after) (rows_of flat range) (Ok tt)) asks.calls.quiet.same prints
-          from_start (Err why) prints = subst (λ (these : Option (List ℕ)). Prints {T = Unit {0}} these (G.printed after) (rows_of flat range) (Err (record {}))) asks.calls.quiet.same prints
+          from_start result prints = grind (arith, nat_tests, asks.calls.quiet.same)
 
       pub shown_whole : PutsBytes G store at range.from range.count start after (Ok tt) → RangeShown G range (call before after [] status.Done)
       shown_whole puts =
@@ -292,9 +268,7 @@ module _ {W : Type 0} (G : Ghosts W) (fewer_later : FewerLater G) (printed_now :
       shown_part why puts = ended after puts.only why (calm why puts.stops) (by why puts puts.stops)
         where
           calm : (why : Status) → StopsBy G start after why → (why ≡ status.DiskFault → ⊥) → G.disk_faults after ≡ G.disk_faults before
-          calm status.DiskFault stops other = absurd (other refl)
-          calm status.PutFault stops other = stops.1 ∙ no_fault
-          calm _ stops other = absurd stops
+          calm why stops other = grind (arith, nat_tests)
 
           by : (why : Status) → PutsBytes G store at range.from range.count start after (Err why) → StopsBy G start after why → ShownBy G range before after why
           by status.DiskFault puts stops = (rows-put (Err status.DiskFault) puts, inr has-range)

@@ -100,14 +100,10 @@ name_on_the_way image left named torn =
 
 -- what the second and the third write put down
 pub put_tail : (image : List ℕ) → written (replicate 8 0) 8 (drop 8 image) ≡ replicate 8 0 ++ drop 8 image
-put_tail image =
-    let none : drop (8 + length (drop 8 image)) (replicate 8 0) ≡ [] = drop_all (8 + length (drop 8 image)) (replicate 8 0) (omega arith) in
-    ap (λ (those : List ℕ). replicate 8 0 ++ (drop 8 image ++ those)) none ∙ ap (λ (those : List ℕ). replicate 8 0 ++ those) (append-nil (drop 8 image))
+put_tail image = grind (arith, nat_tests, drop_all, append-nil)
 
 pub put_name : (image : List ℕ) → take 8 image ≡ name → written (replicate 8 0 ++ drop 8 image) 0 (take 8 image) ≡ image
-put_name image named =
-    let eight : 0 + length (take 8 image) ≡ 8 = omega (arith, ap length named) in
-    ap (λ (n : ℕ). take 8 image ++ drop n (replicate 8 0 ++ drop 8 image)) eight ∙ take-append-drop 8 image
+put_name image named = grind (arith, nat_tests, ap length named, take-append-drop)
 
 -- one write, and more, were counted
 pub one_and : (more : ℕ) (count : Option ℕ) → option_map (λ n. n + more) (option_map (λ n. n + 1) count) ≡ option_map (λ n. n + suc more) count
@@ -118,16 +114,7 @@ pub torn_empty : (count : ℕ) (left : List ℕ) → length left ≤ count → T
 torn_empty count left few = record { before = refl; after = drop_all (0 + count) left (omega arith) ∙ sym (drop_all (0 + count) [] (omega arith)); no_shorter = omega arith; no_longer = omega (arith, few) }
 
 pub torn_wider : (count : ℕ) (start left : List ℕ) → 8 ≤ count → Torn 0 8 start left → Torn 0 count start left
-torn_wider count start left wide torn =
-    let more : 0 + count ≡ (0 + 8) + (count - 8) = omega arith in
-    record {
-      before = refl;
-      after =
-          ap (λ (n : ℕ). drop n left) more ∙ sym (drop-drop (count - 8) (0 + 8) left) ∙ ap (λ (those : List ℕ). drop (count - 8) those) torn.after
-          ∙ drop-drop (count - 8) (0 + 8) start ∙ ap (λ (n : ℕ). drop n start) (sym more);
-      no_shorter = torn.no_shorter;
-      no_longer = omega (arith, torn.no_longer);
-    }
+torn_wider count start left wide torn = grind (arith, nat_tests, drop-drop (count - 8) (0 + 8) left, drop-drop (count - 8) (0 + 8) start, torn.after, torn.no_longer, torn.no_shorter)
 
 pub torn_short : (start left : List ℕ) → start ≡ [] → Torn 0 8 start left → length left ≤ 8
 torn_short start left none torn = omega (arith, torn.no_longer, ap length none)

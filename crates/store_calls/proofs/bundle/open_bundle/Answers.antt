@@ -1,19 +1,16 @@
-use Rattle.store_calls.proofs.Common.{◌≡◌, ◌⊎◌, ℕ, List, inl, inr, refl, sym, ap, subst, ◌∙◌, Ok, Content, content_of, job_of, AreCommitsOf, IsFirstBad, CommitLine, IsBundle, Bundle, Status, IsShut, part_of, IsFaultAt}
+use Rattle.store_calls.proofs.Common.{arith, nat_tests, ◌≡◌, ◌⊎◌, ℕ, List, inl, inr, refl, sym, ap, subst, ◌∙◌, Ok, Content, content_of, job_of, AreCommitsOf, IsFirstBad, CommitLine, IsBundle, Bundle, Status, IsShut, part_of, IsFaultAt}
 use Rattle.store_calls.proofs.PromiseLemmas.{handed_on}
 use Rattle.store_calls.proofs.bundle.open_bundle.Goals as goal
 
 module _ (bytes : List ℕ) (bundle : Bundle) (parts : IsBundle bytes bundle) (content : Content) (job_is : job_of (part_of bytes bundle.job) ≡ Ok content) where
   -- a report with a line that is none
   shut_by_report : (status : Status) → ((number : ℕ) × (status ≡ Status.Bundle 2 number) × IsFirstBad (part_of bytes bundle.report) number) ⊎ (status ≡ Status.NoMemory) → IsShut bytes status
-  shut_by_report status (inl (number, is, bad)) = subst (IsShut bytes) (sym is) (inr (inl (refl, record { bundle = bundle; parts = parts; content = content; job_is = job_is; bad = bad })))
-  shut_by_report status (inr is) = subst (IsShut bytes) (sym is) tt
+  shut_by_report status why = grind (arith, nat_tests, parts)
 
   -- an opening store that stands for nothing
   shut_by_opening : (report : List CommitLine) → AreCommitsOf (part_of bytes bundle.report) report → (status : Status)
       → ((offset : ℕ) × (status ≡ Status.Bundle 3 offset) × IsFaultAt (part_of bytes bundle.opening) offset) ⊎ (status ≡ Status.NoMemory) → IsShut bytes status
-  shut_by_opening report report_is status (inl (offset, is, fault)) =
-      subst (IsShut bytes) (sym is) (inr (inr (refl, record { bundle = bundle; parts = parts; content = content; job_is = job_is; report = report; report_is = report_is; fault = fault })))
-  shut_by_opening report report_is status (inr is) = subst (IsShut bytes) (sym is) tt
+  shut_by_opening report report_is status why = grind (arith, nat_tests, parts)
 
 pub returns-in_err-report-clause-opened : goal.returns-in_err-report-clause-opened
 returns-in_err-report-clause-opened c =

@@ -6,8 +6,7 @@ loop-segment-init c = c.new-segments.ensures
 
 -- there is room for one more
 pushed : {T E P R : Type 0} (result : Result T E) → (R → IsOk result) → R → OnOk result P → P
-pushed (Ok value) fits room added = added
-pushed (Err fault) fits room added = let no = fits room in cc
+pushed result fits room added = grind (arith, nat_tests)
 
 not_ok : {T E : Type 0} (result : Result T E) {fault : E} → result ≡ Err fault → IsOk result → ⊥
 not_ok result is ok = grind (arith, nat_tests)

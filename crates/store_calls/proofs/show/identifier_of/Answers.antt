@@ -4,11 +4,7 @@ use Rattle.store_calls.proofs.show.identifier_of.Goals as goal
 -- what is found has the number that was looked for
 found : (segments : List (ℕ × ℕ)) (number : ℕ) (segment : ℕ × ℕ) → find (is_named number) segments ≡ Some segment → segment.0 ≡ number
 found [] number segment is = cc
-found (first ∷ segments) number segment is = by_test (first.0 == number) refl (found segments number segment) is
-  where
-    by_test : (named : Bool) → (first.0 == number) ≡ named → (find (is_named number) segments ≡ Some segment → segment.0 ≡ number) → cond named (Some first) (find (is_named number) segments) ≡ Some segment → segment.0 ≡ number
-    by_test true same later is = let it : first ≡ segment = cc in let number_is : first.0 ≡ number = grind (arith, nat_tests) in ap (λ (those : ℕ × ℕ). those.0) (sym it) ∙ number_is
-    by_test false other later is = later is
+found (first ∷ segments) number segment is = grind (arith, nat_tests, found segments number segment)
 
 pub returns-in-Some : goal.returns-in-Some
 returns-in-Some c = found c.args.directory.now.segments c.args.segment c.in-Some.found (ap (find (is_named c.args.segment)) (sym c.segments.ensures.value) ∙ sym c.segment_in.ensures ∙ c.in-Some.is)
