@@ -1,5 +1,5 @@
 -- What following a ship text did.
-use Rattle.std.specs.Prelude.{◌≡◌, ◌≢◌, ◌⊎◌, ℕ, ◌+◌, ◌≤◌, ◌<◌, List, [], length, IsSome}
+use Rattle.std.specs.Prelude.{◌≡◌, ◌≢◌, ◌⊎◌, ℕ, ◌+◌, ◌≤◌, ◌<◌, List, [], length, IsSome, Result, MatchResult, OnOk, IfErr}
 use Rattle.standby.specs.Below.{Call, call, Elapses, FaultsBy, FlatStore, Ghosts, Given, held_of, IsFaultAt, IsOfOpening, IsOfStart, KeptStore, Leaves, number_of, OnlyAsks, PrintsBy, Rose, Shows, Stands, stands, Status, TellsStore}
 use Rattle.outside.specs.Durable.{IsSure}
 use Rattle.standby.specs.State.{bank_behind, AllFit, IsAmong, IsTooLong, due, state}
@@ -88,6 +88,12 @@ IsNoText given status.TooBig = HasRead given.left given.left_now 1048577
 IsNoText given status.NoMemory = Unit {0}
 IsNoText given (status.Stream place kind) = (kind ≡ 1) × ((text : List ℕ) × IsWhole given.left given.left_now text × IsFirstBad text place)
 IsNoText given _ = ⊥
+
+-- a source gave a ship text, or why there is none; its count of faults rises with SourceFault alone
+pub record GivesShip (given : Given) (result : Result Ship Status) : Type 0 where
+  pub text : MatchResult result (IsShipFrom given) (IsNoText given)
+  pub unfailed : OnOk result (given.faults_now ≡ given.faults)
+  pub calm : IfErr result (λ now. now ≢ status.SourceFault → given.faults_now ≡ given.faults)
 
 -- there is no ship text, and all that is outside is left; or one was followed so
 abbrev pub FollowedBy : {W : Type 0} → Ghosts W → Given → W → W → Status → Type 0

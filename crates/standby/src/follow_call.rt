@@ -1,8 +1,8 @@
 // A ship text that a store follows.
-ghost use Rattle.std.specs.Prelude.{◌≡◌, ◌≢◌, [], MatchResult, IfErr, OnOk};
+ghost use Rattle.std.specs.Prelude.{[]};
 ghost use Rattle.standby.specs.Below.{call, Elapses, given, OnlyAsks, ReadFaultsBy};
 ghost use Rattle.standby.specs.Text.{IsShip, content_of};
-ghost use Rattle.standby.specs.FollowCalled.{EndsFollowing, FollowedFrom, IsNoText, IsOfFollow, IsRefusal, IsShipFrom, OnStore};
+ghost use Rattle.standby.specs.FollowCalled.{EndsFollowing, FollowedFrom, GivesShip, IsOfFollow, IsRefusal, OnStore};
 
 use super::following::{Followed, follow};
 use super::read::read_ship;
@@ -37,9 +37,7 @@ pub fn follow_source<S: Source, W: Outside>(
 
 /// The ship text that a source has.
 fn ship_from<S: Source>(alloc: Global, source: &mut S) -> Result<Ship, Status>
-    ensures text { MatchResult result (IsShipFrom (given S.Source source.old source.new)) (IsNoText (given S.Source source.old source.new)) }
-    ensures unfailed { OnOk result (S.faults source.new ≡ S.faults source.old) }
-    ensures calm { IfErr result (λ status. status ≢ Status.SourceFault → S.faults source.new ≡ S.faults source.old) }
+    ensures { GivesShip (given S.Source source.old source.new) result }
 {
     let text = read_text(alloc, source, MOST_OF_JOB)?;
     match read_ship(alloc, &text) {

@@ -87,7 +87,7 @@ fn read_record<'a>(
 ) -> Result<(ShipRecord, &'a [u8]), ShipFault>
     requires fits { count ≤ lines }
     requires few { read + length text.now + 2 < 2 ^ 32 }
-    ensures done { IfOk result (λ done. IsReadRecord line_bytes lines count text.now done.0 done.1.now) }
+    ensures done { IfOk result (λ one. IsReadRecord line_bytes lines count text.now one.0 one.1.now) }
     ensures goes { IfOk result (λ done. (front : List ℕ) (number : ℕ) → IsRead line_bytes lines front read number count 0 → IsRead line_bytes lines (front ++ lines_text (record_of line_bytes done.0)) (read + count) number 0 0) }
     ensures fault { IfErr result (λ fault. (front : List ℕ) (number : ℕ) → number < 2 ^ 64 → IsRead line_bytes lines front read number count 0 → IsReadFault (front ++ text.now) fault) }
 {

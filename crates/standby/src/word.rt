@@ -1,6 +1,7 @@
 // The numbers and the digits of a text.
 ghost use Rattle.std.specs.Prelude.{◌≡◌, ◌≢◌, ◌≤◌, ◌<◌, ◌^◌, ◌++◌, ◌∷◌, ℕ, List, All, length, drop, decimal, None, IfOk, MatchOption, IsTrue, ◌↔◌};
 ghost use Rattle.hex.specs.Hex.{encode_lower};
+ghost use Rattle.standby.specs.Read.{ReadsOne};
 ghost use Rattle.hex.specs.declared.error.FromHexError.TheVariants.{OutOfMemory};
 
 use hex::FromHexError;
@@ -31,7 +32,7 @@ pub fn number_to(stop: u8, text: &[u8]) -> (u64, &[u8])
 
 /// What stands in a text after bytes; none where it doesn't begin with them.
 pub fn behind<'a>(line: &[u8], text: &'a [u8]) -> Option<&'a [u8]>
-    ensures { MatchOption result ((rest : List ℕ) → text.now ≢ line.now ++ rest) (λ rest. text.now ≡ line.now ++ rest.now) }
+    ensures { ReadsOne {U = List ℕ} result (λ rest. rest.now) (λ rest. text.now ≡ line.now ++ rest) }
 {
     text.strip_prefix(line)
 }

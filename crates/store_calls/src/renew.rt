@@ -70,7 +70,7 @@ fn renewed_image(alloc: Global, bank_bytes: u32, old: &KeptStore) -> Result<Vec<
     requires most { bank_bytes ≤ 131072 }
     requires small { old.now.directory.page ≡ Two }
     requires whole { length old.now.store.items ≡ sum_by (bytes_of 2048) old.now.directory.segments }
-    ensures image { IfOk result (λ image. image.items ≡ renewed_image bank_bytes old.now.number (flat_of old.now)) }
+    ensures { IfOk result (λ it. it.items ≡ renewed_image bank_bytes old.now.number (flat_of old.now)) }
 {
     let header = Header::new(widened(&old.directory), bank_bytes);
     let mut image = header.front(alloc, old.number)?;

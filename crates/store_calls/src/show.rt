@@ -65,7 +65,7 @@ fn place_of(header: &Header, range: &Range) -> Option<u32>
 
 /// The identifier of the segment with this number, if there is one.
 fn identifier_of(directory: &Directory, segment: u32) -> Option<u16>
-    ensures { MatchOption result (length_of directory.now segment ≡ None) (λ identifier. identifier ≡ segment) }
+    ensures { MatchOption result (length_of directory.now segment ≡ None) (λ one. one ≡ segment) }
 {
     match segment_in(directory.segments(), segment) {
         Some(found) => Some(found.0),

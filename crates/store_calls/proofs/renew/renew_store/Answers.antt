@@ -19,7 +19,7 @@ returns-clause-renewed g c =
     let after = c.write_store.new.outside in
     let old = c.in-Ok.old in
     let bank = c.args.bank_bytes in
-    let image : c.as_slice.result.now ≡ renewed_image bank old.number (flat_of old) = c.as_slice.ensures.value ∙ c.in-Ok-renewed_image.ensures.image in
+    let image : c.as_slice.result.now ≡ renewed_image bank old.number (flat_of old) = c.as_slice.ensures.value ∙ c.in-Ok-renewed_image.ensures in
     let line : c.as_slice-2.result.now ≡ renew_line (length (renewed_image bank old.number (flat_of old))) old.number =
     c.as_slice-2.ensures ∙ c.renew_line-line.ensures ∙ ap (λ (n : ℕ). renew_line n old.number) (c.len.ensures ∙ sym c.as_slice.ensures.len ∙ ap length image) in
     renewed_by_writing G bank (given g.S.Source c.args.source.now c.old_store.new.source) before after c.in-Ok.ensures.unfailed old c.in-Ok.ensures.has
