@@ -1,5 +1,5 @@
 -- A call over an opening that follows a text.
-use Rattle.standby.proofs.Common.{nat_tests, ◌≡◌, inl, inr, ℕ, ◌+◌, ◌-◌, ◌^◌, ◌<◌, ◌≤◌, List, [], ◌++◌, length, refl, sym, ◌∙◌, ap, subst, arith, IsSome, IsTrue, ◌⊎◌, Option, Result, unwrap_or, take_all, length-drop, Ghosts, Prints, FewerLater, Leaves, OnlyAsks, held_of, leaves_on, OpenFault, IsStoreOpenFault, KeptStore, number_of, Shows, TracksStore, IsAmong, behind, due, laid_by, Content, ShipLine, later, call, status_of_open, Status, FlatStore, Header, Elapses, prints_on, prints_same, prints_unput, KeptBank, shown_stands, bank_behind, Follows, IsAtNumber, broken, followed_text, kept_text, well, Followed, Stands, stands, Done, DiskFault, PutFault}
+use Rattle.standby.proofs.Common.{nat_tests, ◌≡◌, inl, inr, ℕ, ◌+◌, ◌-◌, ◌^◌, ◌<◌, ◌≤◌, List, [], ◌++◌, length, refl, sym, ◌∙◌, ap, subst, arith, IsSome, IsTrue, ◌⊎◌, Option, Result, unwrap_or, take_all, length-drop, Ghosts, Prints, FewerLater, Leaves, OnlyAsks, held_of, leaves_on, OpenFault, IsStoreOpenFault, KeptStore, number_of, Shows, TracksStore, IsAmong, behind, due, laid_by, Content, ShipLine, later, call, status_of_open, Status, FlatStore, Elapses, prints_on, prints_same, prints_unput, KeptBank, shown_stands, bank_behind, Follows, IsAtNumber, broken, followed_text, kept_text, well, Followed, Stands, stands, Done, DiskFault, PutFault}
 use Rattle.standby.proofs.PutLemmas.{PrintedNow}
 use Rattle.store_format.proofs.Sound.{stood_header}
 use Rattle.standby.proofs.TellLemmas.{told_front}

@@ -1,5 +1,5 @@
 -- The parts of a line of a ship text: where each ends, and that none holds a line feed.
-use Rattle.standby.proofs.Common.{All, slice_index, AllByRecursion, prefix_len, lt-ltb, nat_tests, drop_at, take_at, All-get_or, recursion_from_All, AllPass-from_list_all, sum_by-append, decode_of-encode_lower, IsWord, number_word, word_cut, feeds, end_line, head_line, line_line, record_line, each_byte, ◌≡◌, ℕ, ◌+◌, ◌/◌, ◌%◌, ◌^◌, ◌<◌, ◌≤◌, ◌==◌, nat_lt, not, true, cond, List, [], ◌∷◌, ◌++◌, length, codes, decimal, get_or, position, Some, None, Ok, take, drop, refl, ◌∙◌, ap, append_assoc, length-append, arith, encode_lower, lower_digits, decode_of, ltb-true, eq-eqb, ne_eqb}
+use Rattle.standby.proofs.Common.{All, slice_index, AllByRecursion, prefix_len, lt-ltb, nat_tests, drop_at, take_at, All-get_or, recursion_from_All, AllPass-from_list_all, sum_by-append, decode_of-encode_lower, IsWord, number_word, word_cut, feeds, end_line, head_line, line_line, record_line, each_byte, ◌≡◌, ℕ, ◌+◌, ◌/◌, ◌%◌, ◌^◌, ◌<◌, ◌≤◌, ◌==◌, nat_lt, not, true, cond, List, [], ◌∷◌, ◌++◌, length, codes, decimal, position, Some, None, Ok, take, drop, refl, ◌∙◌, ap, append_assoc, length-append, arith, encode_lower, lower_digits, decode_of, ltb-true, eq-eqb, ne_eqb}
 use Rattle.hex.specs.Hex.{encode_with}
 use Rattle.std.proofs.lemmas.List.Quantifiers.{position-Some}
 use Rattle.standby.proofs.ShipLemmas.{split_at}

@@ -1,5 +1,5 @@
 -- One record that is kept and told.
-use Rattle.standby.proofs.Common.{IsSome, ◌≡◌, ℕ, ◌+◌, ◌*◌, List, [], ◌∷◌, refl, sym, ◌∙◌, ap, subst, append-nil, IfSome_then, FlatStore, line_bytes, PageSize, RecordLine, Standing, Stands, home_of, stands, one_more, Failed, Ghosts, Prints, IsSure, CallsDisk, FewerLater, Leaves, held_of, begun_of, IsEither, KeptStore, with_begun, Shows, TracksStore, Puts, laid, well, broken, IsStep, Steps, over, put_of, Followed, DiskFault, PutFault, ShipLine, next, kept_line, told, ◌%◌, ◌^◌, length, Option, Result, Ok, Err, OnErr, OnOk, fold, nat_tests, arith, shown_store, shows_begun}
+use Rattle.standby.proofs.Common.{◌≡◌, ℕ, ◌*◌, List, [], ◌∷◌, refl, ◌∙◌, ap, subst, append-nil, IfSome_then, FlatStore, line_bytes, PageSize, RecordLine, Standing, Stands, stands, one_more, Failed, Ghosts, IsSure, CallsDisk, FewerLater, Leaves, held_of, begun_of, IsEither, KeptStore, with_begun, Shows, TracksStore, Puts, laid, well, broken, IsStep, Steps, over, put_of, Followed, DiskFault, PutFault, ShipLine, next, kept_line, told, Result, Ok, Err, OnErr, OnOk, nat_tests, arith, shown_store, shows_begun}
 use Rattle.lines.specs.Overlay.{overlaid}
 use Rattle.store_format.proofs.Stores.{stands_is}
 use Rattle.store_format.specs.Stands as format

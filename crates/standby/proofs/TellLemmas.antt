@@ -1,5 +1,5 @@
 -- The lines that tell of records, and records that are kept and told, one after another.
-use Rattle.standby.proofs.Common.{nat_tests, ◌≡◌, inl, inr, ℕ, zero, suc, ◌+◌, ◌-◌, ◌<◌, ◌≤◌, List, [], ◌∷◌, ◌++◌, length, take, get_or, min, Bool, nat_le, refl, if◌then◌else◌, sym, ◌∙◌, ap, arith, append_assoc, append-nil, length-append, IfSome_then, take_more, take-append-le, take_min, fold-append, FlatStore, Stands, stands, Prints, kept_text, followed_text, StandWhole, IsAtNumber, well, SeesPart, laid, laid_by, IsStep, over, ShipLine, next, later, end_line, kept_line, codes, decimal, Option, IfSome, take_all, take-append-add, take-append_seam, ⊎_elim, subst, Result, Ok, Err, OnErr, Failed, Ghosts, FewerLater, Leaves, held_of, told_is, prints_none, prints_on, prints_same, prints_stop, leaves_on, KeptStore, Shows, TracksStore, BreaksAt, EndsWith, IsStopped, Follows, Keeps, SoFar, broken, Puts, Steps, followed_of, put_of, Followed, Done, DiskFault, PutFault, Elapses, FoundOf, Header, Content, Geometry, NotKept, Long}
+use Rattle.standby.proofs.Common.{nat_tests, ◌≡◌, inl, inr, ℕ, zero, suc, ◌+◌, ◌-◌, ◌<◌, ◌≤◌, List, [], ◌∷◌, ◌++◌, length, take, get_or, min, Bool, nat_le, refl, if◌then◌else◌, sym, ◌∙◌, ap, arith, append_assoc, append-nil, length-append, IfSome_then, take_more, take-append-le, take_min, fold-append, FlatStore, Stands, stands, Prints, kept_text, followed_text, StandWhole, IsAtNumber, well, SeesPart, laid, laid_by, IsStep, over, ShipLine, next, later, end_line, kept_line, codes, decimal, Option, IfSome, take_all, take-append-add, take-append_seam, ⊎_elim, subst, Result, Ok, Err, OnErr, Failed, Ghosts, FewerLater, Leaves, held_of, told_is, prints_none, prints_on, prints_same, prints_stop, leaves_on, KeptStore, TracksStore, BreaksAt, EndsWith, IsStopped, Follows, Keeps, SoFar, broken, Puts, Steps, followed_of, put_of, Followed, Done, DiskFault, PutFault, Elapses, FoundOf, Header, Content}
 use Rattle.standby.proofs.PutLemmas.{on_printed, PrintedNow, image_is, sure_puts, told_on}
 
 -- a line has bytes

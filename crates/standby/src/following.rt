@@ -1,5 +1,5 @@
 // The records of a ship text, committed to a store one after another.
-ghost use Rattle.std.specs.Prelude.{◌≡◌, ◌≢◌, ◌↔◌, ◌+◌, ◌≤◌, ◌<◌, ◌^◌, ◌⊎◌, ℕ, [], All, length, IsTrue, IfSome, IfNone, Err, OnErr};
+ghost use Rattle.std.specs.Prelude.{◌≡◌, ◌↔◌, ◌+◌, ◌≤◌, ◌<◌, ◌⊎◌, ℕ, All, length, IsTrue, IfSome, IfNone, Err, OnErr};
 ghost use Rattle.standby.specs.Below.{IsUsable, line_bytes, number_of, total};
 ghost use Rattle.standby.specs.State.{bank_behind, IsLongAt, due};
 ghost use Rattle.standby.specs.Followed.{IsAlike, OfTracked, OnlyGoesOn, EndsBy, FollowsAll, FoundOf, Follows, IsFitting, IsBegun, KeepsEach, KeepsOne, put_of};

@@ -1,5 +1,5 @@
 // The records of a bank behind a number, put as a text.
-ghost use Rattle.std.specs.Prelude.{◌≡◌, ◌≢◌, ◌↔◌, ◌+◌, ◌≤◌, ◌<◌, ◌⊎◌, Err, OnErr};
+ghost use Rattle.std.specs.Prelude.{◌≡◌, ◌↔◌, ◌+◌, ◌<◌, ◌⊎◌, Err, OnErr};
 ghost use Rattle.standby.specs.Below.{AsksAndPuts, IsShown, IsUsable, line_count, record_bytes, total};
 ghost use Rattle.standby.specs.Puts.{Puts};
 ghost use Rattle.standby.specs.Shipped.{EndsBy, FindsPlace, MayShip, ShipsBy, ShipsContent, ShipsLine, ShipsRecord, ShipsRecords, shipped};

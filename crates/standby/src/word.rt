@@ -1,5 +1,5 @@
 // The numbers and the digits of a text.
-ghost use Rattle.std.specs.Prelude.{◌≡◌, ◌≢◌, ◌≤◌, ◌<◌, ◌^◌, ◌++◌, ◌∷◌, ℕ, List, All, length, drop, decimal, None, IfOk, MatchOption, IsTrue, ◌↔◌};
+ghost use Rattle.std.specs.Prelude.{◌≡◌, ◌≢◌, ◌≤◌, ◌<◌, ◌^◌, ◌++◌, ◌∷◌, ℕ, List, All, drop, decimal, None, IfOk, MatchOption, IsTrue, ◌↔◌};
 ghost use Rattle.hex.specs.Hex.{encode_lower};
 ghost use Rattle.standby.specs.Read.{ReadsOne};
 ghost use Rattle.hex.specs.declared.error.FromHexError.TheVariants.{OutOfMemory};

@@ -1,5 +1,5 @@
 -- A bundle that has what a call needs.
-use Rattle.store_calls.proofs.Common.{◌≡◌, ◌⊎◌, ℕ, List, inl, inr, subst, ap, Option, IsFirstBad, job_of, IsBundle, Bundle, IsFaultAt, IsStanding, IsWholeBundle, Status, read_whole, AuditedBy, CanAudit, IsOfAudit, HasBundle, IsBadClosing, IsNoJob, IsWrongPart, part_of, CanTrace, IsOfTrace, TracedBy, Ghosts, Result, IsErr, IsErrAnd, MatchResult, arith, nat_tests, refl}
+use Rattle.store_calls.proofs.Common.{◌≡◌, ◌⊎◌, ℕ, List, inl, inr, subst, Option, IsFirstBad, IsBundle, Bundle, IsFaultAt, IsStanding, IsWholeBundle, Status, read_whole, AuditedBy, CanAudit, IsOfAudit, HasBundle, IsBadClosing, IsNoJob, IsWrongPart, part_of, CanTrace, IsOfTrace, TracedBy, Ghosts, Result, IsErr, IsErrAnd, MatchResult, arith, nat_tests}
 use Rattle.serial_audit.proofs.OneLemmas.{has_one_splitting}
 use Rattle.serial_audit.specs.declared.answer.TraceFault.TheVariants as fault
 use Rattle.call_status.specs.declared.status.Status.TheVariants as status

@@ -1,5 +1,5 @@
 -- A store of version 2 with what a store of version 1 has.
-use Rattle.store_calls.proofs.Common.{◌≡◌, inl, inr, ℕ, suc, ◌+◌, ◌*◌, ◌/◌, ◌%◌, ◌^◌, ◌<◌, ◌≤◌, false, List, [], ◌∷◌, ◌++◌, length, map, take, take-suc, get_or, drop, replicate, true≢false, refl, sym, ◌∙◌, ap, subst, arith, All, sum_by, cases_eq, length-append, length-drop, length-replicate, length-map, length-take, map-append, pow_pos, Layout, FlatStore, IsInRange, IsLegal, bytes_of, Two, number_at, page_of, Stands, stands, Ghosts, flat_of, KeptStore, Given, call, Status, IsNoEmpty, IsOfWriting, Written, HasOne, IsRenewed, Renewed, RenewedBy, is_version_two, renew_line, renewed_header, renewed_image, widened, widened_bytes, widened_segments, nat_tests, sum_by-cons}
+use Rattle.store_calls.proofs.Common.{◌≡◌, inl, inr, ℕ, ◌+◌, ◌*◌, ◌/◌, ◌%◌, ◌^◌, ◌<◌, ◌≤◌, false, List, [], ◌∷◌, ◌++◌, length, map, take, take-suc, get_or, drop, replicate, true≢false, refl, sym, ◌∙◌, ap, subst, arith, All, sum_by, cases_eq, length-append, length-drop, length-replicate, length-map, length-take, map-append, pow_pos, Layout, FlatStore, IsInRange, IsLegal, bytes_of, Two, number_at, page_of, Stands, stands, Ghosts, flat_of, KeptStore, Given, call, Status, IsNoEmpty, IsOfWriting, Written, HasOne, IsRenewed, Renewed, RenewedBy, is_version_two, renew_line, renewed_header, renewed_image, widened, widened_bytes, widened_segments, nat_tests, sum_by-cons}
 use Rattle.std.proofs.lemmas.List.Elements.{All-nil, All-cons, All-head, All-tail}
 use Rattle.store_format.proofs.Fresh.{stored_stands}
 use Rattle.store_format.proofs.Sound.{begins_two, named_header, sound_header, stood_header}

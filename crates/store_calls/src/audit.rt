@@ -1,5 +1,5 @@
 // The audit of a finished run.
-ghost use Rattle.std.specs.Prelude.{◌≡◌, ◌⊎◌, ◌≤◌, ◌<◌, ◌^◌, ℕ, [], length, MatchResult};
+ghost use Rattle.std.specs.Prelude.{◌≡◌, ◌⊎◌, ◌≤◌, ◌<◌, ℕ, [], length, MatchResult};
 ghost use Rattle.store_calls.specs.Below.{call, given, ReadFaultsBy, Rose};
 ghost use Rattle.store_calls.specs.New.{EndsAs, PutsIn};
 ghost use Rattle.store_calls.specs.Audited.{Audited, AuditedBy, CanAudit, IsChecked, IsOfAudit, IsUnchecked, verdict_line};

@@ -1,7 +1,7 @@
 // The store that bytes in memory are.
 ghost use Rattle.store_calls.specs.declared.kept.KeptFault.TheVariants.{Memory};
 ghost use Rattle.std.specs.Prelude.{◌≡◌, IsSome, IfOk, IfErr, MatchResult};
-ghost use Rattle.store_calls.specs.Below.{byte_count, held_of, IsShown, IsUsable, OnlyAsks, stands, total};
+ghost use Rattle.store_calls.specs.Below.{byte_count, held_of, IsShown, IsUsable, stands, total};
 ghost use Rattle.store_calls.specs.Bundled.{IsWhyNone, Keeps, fault_of};
 ghost use Rattle.store_calls.specs.Show.{bytes_in};
 

@@ -1,4 +1,4 @@
-use Rattle.standby.proofs.Lemmas.{◌≡◌, ◌≢◌, ⊎_elim, ◌+◌, ◌≤◌, ◌∷◌, ◌++◌, [], List, ℕ, length, map, sym, ap, subst, ◌∙◌, arith, append_assoc, append-nil, length-append, All, length-map, map-append, All-map, All-push, IsRead, IsReadFault, AreLines, IsPacked, ShipLine, end_line, head_line, later, next, record_line, record_of, records_text, ShipRecord, empty_is, some_is, common_steps, length-parted, record_long, records_step, text_more, whole_text, bad_behind, bad_here, read_count, read_head}
+use Rattle.standby.proofs.Lemmas.{◌≡◌, ⊎_elim, ◌+◌, ◌∷◌, ◌++◌, [], List, ℕ, length, map, sym, ap, subst, ◌∙◌, arith, append_assoc, append-nil, length-append, All, length-map, map-append, All-map, All-push, IsRead, IsReadFault, AreLines, IsPacked, ShipLine, end_line, head_line, later, next, record_line, record_of, records_text, ShipRecord, empty_is, some_is, common_steps, length-parted, record_long, records_step, text_more, whole_text, bad_behind, bad_here, read_count, read_head}
 use Rattle.standby.proofs.read.read_records.Goals as goal
 
 pub loop-count-init : goal.loop-count-init

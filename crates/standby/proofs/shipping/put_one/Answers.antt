@@ -1,4 +1,4 @@
-use Rattle.standby.proofs.Common.{common_steps, elements, rules, All, length, line_bytes}
+use Rattle.standby.proofs.Common.{elements, rules, All, length, line_bytes}
 use Rattle.standby.proofs.Lemmas.{arith, ◌≡◌, ◌<◌, ℕ, List, [], refl, subst, sym, ◌∙◌, ap, on_ok, RecordLine, PrintsBy, broken, feeds, line_line, prints_unput, shows_asks, shows_on, shows_line, by_put, prints_by, quiet_by}
 use Rattle.standby.proofs.shipping.put_one.Goals as goal
 

@@ -1,4 +1,4 @@
-use Rattle.store_calls.proofs.Common.{arith, nat_tests, ◌≡◌, ◌⊎◌, ℕ, List, inl, inr, refl, sym, ap, subst, ◌∙◌, Ok, Content, content_of, job_of, AreCommitsOf, IsFirstBad, CommitLine, IsBundle, Bundle, Status, IsShut, part_of, IsFaultAt}
+use Rattle.store_calls.proofs.Common.{arith, nat_tests, ◌≡◌, ◌⊎◌, ℕ, List, sym, ap, subst, ◌∙◌, Ok, Content, content_of, job_of, AreCommitsOf, IsFirstBad, CommitLine, IsBundle, Bundle, Status, IsShut, part_of, IsFaultAt}
 use Rattle.store_calls.proofs.PromiseLemmas.{handed_on}
 use Rattle.store_calls.proofs.bundle.open_bundle.Goals as goal
 

@@ -1,4 +1,4 @@
-use Rattle.store_calls.proofs.Lemmas.{◌≡◌, ◌+◌, ◌<◌, ◌/◌, ◌++◌, ℕ, List, [], ◌∷◌, length, take, slice_index_or, sym, ◌∙◌, ap, subst, arith, Result, Ok, Err, IsOk, OnOk, length-map, length-take, take_all, IsLegal, Four, widened_segments, widened_legal, widened_more, nat_tests}
+use Rattle.store_calls.proofs.Lemmas.{◌≡◌, ◌+◌, ◌<◌, ◌/◌, ◌++◌, ℕ, List, [], ◌∷◌, length, take, slice_index_or, sym, ◌∙◌, ap, subst, arith, Result, Err, IsOk, OnOk, length-map, length-take, take_all, IsLegal, Four, widened_segments, widened_legal, widened_more, nat_tests}
 use Rattle.store_calls.proofs.renew.widened.Goals as goal
 
 pub loop-segment-init : goal.loop-segment-init

@@ -1,4 +1,4 @@
-use Rattle.store_calls.proofs.Common.{◌≡◌, ℕ, List, [], ◌∷◌, Bool, true, false, cond, Some, refl, ap, ◌∙◌, sym, arith, find, option_map, ◌==◌, nat_tests, bytes_of, is_named, page_bytes}
+use Rattle.store_calls.proofs.Common.{◌≡◌, ℕ, List, [], ◌∷◌, Some, ap, ◌∙◌, sym, arith, find, option_map, nat_tests, bytes_of, is_named, page_bytes}
 use Rattle.store_calls.proofs.show.identifier_of.Goals as goal
 
 -- what is found has the number that was looked for
