@@ -1,5 +1,5 @@
 -- A command that has what it needs ends well, by what it did.
-use Rattle.console.proofs.Common.{◌≡◌, ◌⊎◌, ◌+◌, ◌*◌, ◌<◌, ◌≤◌, get_or, ℕ, List, [], ◌∷◌, length, map, refl, sym, ◌∙◌, ap, subst, arith, inl, inr, ⊎_elim, Status, most_lines, Given, call, CanTrace, Global, PageSize, Two, Four, Command, IsForm, Says, new_word, word_of, codes, nat_eq, Bool, true, false, slice_index, Option, Some, None, IsSome, String, string_bytes, unwrap_or, All, slice_get, Ghosts}
+use Rattle.console.proofs.Common.{◌≡◌, ◌⊎◌, ◌+◌, ◌*◌, ◌<◌, ◌≤◌, get_or, ℕ, List, [], ◌∷◌, length, map, refl, sym, ◌∙◌, ap, subst, arith, inl, inr, ⊎_elim, Status, most_lines, Given, call, Global, PageSize, Two, Four, Command, IsForm, Says, new_word, word_of, codes, Bool, true, false, slice_index, Option, Some, None, IsSome, String, string_bytes, unwrap_or, All, slice_get, Ghosts, ◌==◌, nat_tests, numbers_of}
 use Rattle.std.proofs.lemmas.Option.{slice_get_cases}
 use Rattle.call_status.proofs.TextLemmas.{read_whole, too_much}
 use Rattle.outside.specs.Causes.{Rose}
@@ -8,13 +8,12 @@ use Rattle.store_calls.specs.Renewed.{IsNotOne, IsOfRenew, Renewed}
 use Rattle.store.specs.KeptStore.{number_of}
 use Rattle.standby.specs.State.{IsFirstLong, due}
 use Rattle.standby.specs.Text.{Content, IsContent, ShipLine, text_of}
-use Rattle.standby.specs.FollowCalled.{FollowedBy, FollowedFrom, IsNoText, IsOfFollow, OnStore}
+use Rattle.standby.specs.FollowCalled.{FollowedBy, IsNoText, IsOfFollow, OnStore}
 use Rattle.standby.specs.ShipCalled.{IsOfShip, ShippedFrom}
 use Rattle.call_status.specs.Opening.{IsFaultAt, IsStanding}
-use Rattle.store_calls.specs.Audited.{CanAudit}
 use Rattle.console.specs.Causes.{CanFollow, CanShip, HasAll, HasOldStore, IsComplete}
 use Rattle.call_status.specs.declared.status.Status.TheVariants as status
-use Rattle.console.proofs.WordLemmas.{one_from, one_trace}
+use Rattle.console.proofs.WordLemmas.{one_from, one_header, same_number, same_words}
 use Rattle.console.specs.declared.words.Command.TheVariants as command
 
 -- words begin with that of their command
@@ -23,14 +22,10 @@ begins command.Try words says = ([], says)
 begins command.List words says = ([], says)
 begins command.Drill words says = ([], says)
 begins command.Audit words says = ([], says)
-begins command.Run words says = (says.store ∷ says.numbers, says.are)
-begins (command.Show range) words says = (says.store ∷ says.numbers, says.are)
-begins (command.New header) words says = (says.store ∷ says.numbers, says.are)
-begins (command.Renew bank) words says = (says.store ∷ says.numbers, says.are)
 begins (command.Ship from) words says = (says.store ∷ says.number ∷ [], says.are)
-begins command.Follow words says = (says.store ∷ says.numbers, says.are)
 begins (command.Big transfers) words says = (says.number ∷ [], says.are)
 begins (command.Trace activation) words says = (says.number ∷ [], says.are)
+begins _ words says = (says.store ∷ says.numbers, says.are)
 
 one_word : (one two : Command) (words : List (List ℕ)) → Says one words → Says two words → word_of one ≡ word_of two
 one_word one two words first second =
@@ -39,10 +34,10 @@ one_word one two words first second =
     cc
 
 -- the first three bytes of a word, as a number
-abbrev pub mark : List ℕ → ℕ
+abbrev mark : List ℕ → ℕ
 mark word = (slice_index word 0 * 256 + slice_index word 1) * 256 + slice_index word 2
 
-abbrev pub mark_of : Command → ℕ
+abbrev mark_of : Command → ℕ
 mark_of (command.New header) = mark (codes "new")
 mark_of form = mark (word_of form)
 
@@ -54,67 +49,46 @@ mark_is (command.New header) = by header.directory.page
     by Four = refl
 mark_is _ = refl
 
-abbrev pub Holds : Bool → Type 0
+abbrev Holds : Bool → Type 0
 Holds true = Unit {0}
 Holds false = ⊥
 
--- commands that the same words say have one mark
-pub same_mark : (one two : Command) (words : List (List ℕ)) → Says one words → Says two words → Holds (nat_eq (mark_of two) (mark_of two)) → Holds (nat_eq (mark_of one) (mark_of two))
-same_mark one two words first second itself =
-    let same = sym (mark_is one) ∙ ap mark (one_word one two words first second) ∙ mark_is two in
-    subst (λ (n : ℕ). Holds (nat_eq n (mark_of two))) (sym same) itself
+holds : (one two : ℕ) → one ≡ two → Holds (one == two)
+holds one two same = let is : (one == two) ≡ true = grind (arith, nat_tests) in subst Holds (sym is) tt
 
--- what a command needs, by its mark
-module _ {W : Type 0} (G : Ghosts W) (left : Option (List ℕ)) (outside : W) where
-  needs_old : (form : Command) → Holds (nat_eq (mark_of form) (mark_of (command.Renew 0))) → HasAll G form left outside → HasOldStore left × (G.held outside ≡ Some [])
-  needs_old (command.Renew bank) is has = has
-  needs_old _ is has = absurd is
+one_of : (one two : Command) (words : List (String Global)) → Holds (mark_of one == mark_of two) → IsForm one words → IsForm two words → one ≡ two
+one_of command.Try command.Try words marked first second = refl
+one_of command.Run command.Run words marked first second = refl
+one_of command.List command.List words marked first second = refl
+one_of command.Drill command.Drill words marked first second = refl
+one_of command.Follow command.Follow words marked first second = refl
+one_of command.Audit command.Audit words marked first second = refl
+one_of (command.Show one) (command.Show two) words marked first second =
+    let same = same_words (command.Show one) (command.Show two) (map string_bytes words) first.says second.says in
+    let at : (k : ℕ) → (get_or (numbers_of (command.Show one)) k (0, false)).0 ≡ (get_or (numbers_of (command.Show two)) k (0, false)).0 = λ k. ap (λ (those : List (ℕ × Bool)). (get_or those k (0, false)).0) same in
+    λ i. command.Show (record { segment = at 0 i; from = at 1 i; count = at 2 i })
+one_of (command.New one) (command.New two) words marked first second = ap command.New (one_header words one two first second)
+one_of (command.Renew one) (command.Renew two) words marked first second =
+    ap (λ (those : List (ℕ × Bool)). command.Renew (get_or those 0 (0, false)).0) (same_words (command.Renew one) (command.Renew two) (map string_bytes words) first.says second.says)
+one_of (command.Ship one) (command.Ship two) words marked first second = ap command.Ship (one_from words one two first second)
+one_of (command.Big one) (command.Big two) words marked first second = ap command.Big (same_number (command.Big one) (command.Big two) (map string_bytes words) first.says second.says)
+one_of (command.Trace one) (command.Trace two) words marked first second = ap command.Trace (same_number (command.Trace one) (command.Trace two) (map string_bytes words) first.says second.says)
+one_of _ _ words marked first second = absurd marked
 
-  needs_text : (form : Command) → Holds (nat_eq (mark_of form) (mark_of command.Follow)) → HasAll G form left outside → CanFollow G left outside
-  needs_text command.Follow is has = has
-  needs_text _ is has = absurd is
+-- words say one command
+pub one_form : (words : List (String Global)) (one two : Command) → IsForm one words → IsForm two words → one ≡ two
+one_form words one two first second =
+    one_of one two words (holds (mark_of one) (mark_of two) (sym (mark_is one) ∙ ap mark (one_word one two (map string_bytes words) first.says second.says) ∙ mark_is two)) first second
 
-  needs_bundle : (form : Command) → Holds (nat_eq (mark_of form) (mark_of command.Audit)) → HasAll G form left outside → CanAudit left
-  needs_bundle command.Audit is has = has
-  needs_bundle _ is has = absurd is
-
-  module _ (words : List (String Global)) where
-    -- words of shipping say one number, and so do those of a trace
-    needs_kept : (from : ℕ) → IsForm (command.Ship from) words → (form : Command) → IsForm form words → Holds (nat_eq (mark_of form) (mark_of (command.Ship 0))) → HasAll G form left outside → CanShip G from outside
-    needs_kept from asked (command.Ship other) says is has = subst (λ (n : ℕ). CanShip G n outside) (one_from words other from says asked) has
-    needs_kept from asked _ says is has = absurd is
-
-    needs_trace : (activation : ℕ) → IsForm (command.Trace activation) words → (form : Command) → IsForm form words → Holds (nat_eq (mark_of form) (mark_of (command.Trace 0))) → HasAll G form left outside → CanTrace activation left
-    needs_trace activation asked (command.Trace other) says is has = subst (λ (n : ℕ). CanTrace n left) (one_trace words other activation says asked) has
-    needs_trace activation asked _ says is has = absurd is
-
-    module _ (complete : IsComplete G words left outside) where
-      abbrev Marked : Command → Type 0
-      Marked asked = Holds (nat_eq (mark_of complete.form) (mark_of asked))
-
-      marked : (asked : Command) → IsForm asked words → Holds (nat_eq (mark_of asked) (mark_of asked)) → Marked asked
-      marked asked is itself = same_mark complete.form asked (map string_bytes words) complete.asks.says is.says itself
-
-      pub renews : (bank : ℕ) → IsForm (command.Renew bank) words → HasOldStore left × (G.held outside ≡ Some [])
-      renews bank asked = needs_old complete.form (marked (command.Renew bank) asked tt) complete.has
-
-      pub follows : IsForm command.Follow words → CanFollow G left outside
-      follows asked = needs_text complete.form (marked command.Follow asked tt) complete.has
-
-      pub ships : (from : ℕ) → IsForm (command.Ship from) words → CanShip G from outside
-      ships from asked = needs_kept from asked complete.form complete.asks (marked (command.Ship from) asked tt) complete.has
-
-      pub audits : IsForm command.Audit words → CanAudit left
-      audits asked = needs_bundle complete.form (marked command.Audit asked tt) complete.has
-
-      pub traces : (activation : ℕ) → IsForm (command.Trace activation) words → CanTrace activation left
-      traces activation asked = needs_trace activation asked complete.form complete.asks (marked (command.Trace activation) asked tt) complete.has
+-- what a command needs is there
+pub needs : {W : Type 0} (G : Ghosts W) (left : Option (List ℕ)) (outside : W) (words : List (String Global)) (asked : Command) → IsForm asked words → IsComplete G words left outside → HasAll G asked left outside
+needs G left outside words asked is complete = subst (λ (form : Command). HasAll G form left outside) (one_form words complete.form asked complete.asks is) complete.has
 
 -- a renewal
 module _ {W : Type 0} (G : Ghosts W) where
   -- it ends well where nothing fails
   module _ (from : Given) (before after : W) (order : List (ℕ × ℕ)) (has : HasOldStore from.left) (empty : G.held before ≡ Some []) (calm : Rose from.faults from.faults_now → ⊥) where
-    renewal_ends : (bank : ℕ) (status : Status) → Renewed G bank from (call before after order status) → IsOfRenew status
+    pub renewal_ends : (bank : ℕ) (status : Status) → Renewed G bank from (call before after order status) → IsOfRenew status
         → (status ≡ Status.DiskFault → ⊥) → (status ≡ Status.PutFault → ⊥) → (status ≡ Status.Done) ⊎ (status ≡ Status.NoMemory)
     renewal_ends bank status.Done did of disk put = inl refl
     renewal_ends bank status.NoMemory did of disk put = inr refl
@@ -139,13 +113,6 @@ module _ {W : Type 0} (G : Ghosts W) where
         absurd (omega (arith, some, none))
     renewal_ends bank _ did of disk put = absurd of
 
-  pub renewal_promise : (words : List (String Global)) (bank : ℕ) → IsForm (command.Renew bank) words → (from : Given) (before after : W) (order : List (ℕ × ℕ)) (status : Status)
-      → Renewed G bank from (call before after order status) → IsOfRenew status → IsComplete G words from.left before → (Rose from.faults from.faults_now → ⊥)
-      → (status ≡ Status.DiskFault → ⊥) → (status ≡ Status.PutFault → ⊥) → (status ≡ Status.Done) ⊎ (status ≡ Status.NoMemory)
-  renewal_promise words bank asked from before after order status did of complete calm disk put =
-      let needs = renews G from.left before words complete bank asked in
-      renewal_ends from before after order needs.0 needs.1 calm bank status did of disk put
-
 -- a store that is shipped or follows
 module _ {W : Type 0} (G : Ghosts W) (left : Option (List ℕ)) (outside : W) where
   -- bytes that stand have no fault
@@ -154,7 +121,7 @@ module _ {W : Type 0} (G : Ghosts W) (left : Option (List ℕ)) (outside : W) wh
   no_fault offset stood (inr is) = let those = stood.2 in cc
 
   module _ (after : W) (order : List (ℕ × ℕ)) where
-    ship_ends : (from : ℕ) (now : Status) → CanShip G from outside → ShippedFrom G from (call outside after order now) → IsOfShip now → (now ≡ Status.DiskFault → ⊥) → (now ≡ Status.PutFault → ⊥) → (now ≡ Status.Done) ⊎ (now ≡ Status.NoMemory)
+    pub ship_ends : (from : ℕ) (now : Status) → CanShip G from outside → ShippedFrom G from (call outside after order now) → IsOfShip now → (now ≡ Status.DiskFault → ⊥) → (now ≡ Status.PutFault → ⊥) → (now ≡ Status.Done) ⊎ (now ≡ Status.NoMemory)
     ship_ends from status.Done can did of disk put = inl refl
     ship_ends from status.NoMemory can did of disk put = inr refl
     ship_ends from status.DiskFault can did of disk put = absurd (disk refl)
@@ -166,11 +133,6 @@ module _ {W : Type 0} (G : Ghosts W) (left : Option (List ℕ)) (outside : W) wh
         let all = why.behind_all in
         absurd (omega (arith, keeps, all))
     ship_ends from _ can did of disk put = absurd of
-
-    pub ship_promise : (words : List (String Global)) (from : ℕ) → IsForm (command.Ship from) words → (now : Status) → ShippedFrom G from (call outside after order now) → IsOfShip now → IsComplete G words left outside
-        → (now ≡ Status.DiskFault → ⊥) → (now ≡ Status.PutFault → ⊥) → (now ≡ Status.Done) ⊎ (now ≡ Status.NoMemory)
-    ship_promise words from asked now did of complete disk put =
-        ship_ends from now (ships G left outside words complete from asked) did of disk put
 
     module _ (left_now : Option (List ℕ)) (faults faults_now : ℕ) (can : CanFollow G left outside) (calm : Rose faults faults_now → ⊥) where
       -- a record that is too long isn't among those that aren't
@@ -212,12 +174,7 @@ module _ {W : Type 0} (G : Ghosts W) (left : Option (List ℕ)) (outside : W) wh
           absurd (bad.none can.content can.is_content (read_whole left left_now can.text text can.has_text whole.all whole.none ∙ can.means))
       no_text _ why = absurd why
 
-      follow_ends : (now : Status) → FollowedBy G (record { left = left; left_now = left_now; faults = faults; faults_now = faults_now }) outside after now → IsOfFollow now → (now ≡ Status.DiskFault → ⊥) → (now ≡ Status.PutFault → ⊥) → (now ≡ Status.Done) ⊎ (now ≡ Status.NoMemory)
+      pub follow_ends : (now : Status) → FollowedBy G (record { left = left; left_now = left_now; faults = faults; faults_now = faults_now }) outside after now → IsOfFollow now → (now ≡ Status.DiskFault → ⊥) → (now ≡ Status.PutFault → ⊥) → (now ≡ Status.Done) ⊎ (now ≡ Status.NoMemory)
       follow_ends now (inl (same, why)) of disk put = no_text now why
       follow_ends now (inr (held, has, did)) of disk put =
           on_store held has.is_content (sym (read_whole left left_now can.text has.text can.has_text has.whole.all has.whole.none) ∙ has.means) now did of disk put
-
-    pub follow_promise : (words : List (String Global)) → IsForm command.Follow words → (left_now : Option (List ℕ)) (faults faults_now : ℕ) (now : Status) → FollowedFrom G (record { left = left; left_now = left_now; faults = faults; faults_now = faults_now }) (call outside after order now) → IsOfFollow now
-        → IsComplete G words left outside → (Rose faults faults_now → ⊥) → (now ≡ Status.DiskFault → ⊥) → (now ≡ Status.PutFault → ⊥) → (now ≡ Status.Done) ⊎ (now ≡ Status.NoMemory)
-    follow_promise words asked left_now faults faults_now now did of complete calm disk put =
-        follow_ends left_now faults faults_now (follows G left outside words complete asked) calm now did.by_status of disk put

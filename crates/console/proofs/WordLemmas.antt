@@ -237,13 +237,13 @@ without_numbers (first ∷ second ∷ rest) two none no_number_said no_ship form
     no (command.Trace activation) form = no_number_said (command.Trace activation) (tt, form)
 
 -- words that name a store have one list of numbers
-same_words : (one two : Command) (words : List (List ℕ)) → NamesStore one words → NamesStore two words → numbers_of one ≡ numbers_of two
+pub same_words : (one two : Command) (words : List (List ℕ)) → NamesStore one words → NamesStore two words → numbers_of one ≡ numbers_of two
 same_words one two words first second =
     let behind : second.numbers ≡ first.numbers = let here = first.are in let there = second.are in cc in
     one_list first.numbers (numbers_of one) (numbers_of two) first.say (subst (λ (those : List (List ℕ)). AreNumbers those (numbers_of two)) behind second.say)
 
 -- words with a number have one
-same_number : (one two : Command) (words : List (List ℕ)) → SaysNumber one words → SaysNumber two words → number_said one ≡ number_said two
+pub same_number : (one two : Command) (words : List (List ℕ)) → SaysNumber one words → SaysNumber two words → number_said one ≡ number_said two
 same_number one two words first second =
     let here = first.are in
     let there = second.are in
@@ -252,10 +252,6 @@ same_number one two words first second =
   where
     same_some : (one two : ℕ) → Some one ≡ Some two → one ≡ two
     same_some one two is = cc
-
--- words name one activation to trace
-pub one_trace : (words : List (String Global)) (one two : ℕ) → IsForm (command.Trace one) words → IsForm (command.Trace two) words → one ≡ two
-one_trace words one two first second = same_number (command.Trace one) (command.Trace two) (map string_bytes words) first.says second.says
 
 -- a word, a store and a long number
 pub with_long : (words : List (String Global)) (word store number : String Global) (result : Option ℕ) → length words ≡ 3 → word ≡ get_or words 0 word → store ≡ get_or words 1 store → number ≡ get_or words 2 number

@@ -1,8 +1,9 @@
-use Rattle.console.proofs.Common.{◌≡◌, ◌⊎◌, List, [], inl, inr, subst, sym, Call, call, given, Status, TracedFrom, Command, IsForm, Made, Ended}
+use Rattle.console.proofs.Common.{◌≡◌, ◌⊎◌, List, Option, ℕ, [], inl, inr, subst, sym, String, Global, Ghosts, Call, call, given, Status, TracedFrom, Command, IsForm, Made, Ended}
 use Rattle.desk.specs.Answers.{order_told}
 use Rattle.desk.specs.declared.answers.Committed.{Committed}
-use Rattle.console.proofs.PromiseLemmas.{audits, follow_promise, renewal_promise, ship_promise, traces}
-use Rattle.console.proofs.DidLemmas.{made_as_said, traced_as_said}
+use Rattle.console.specs.Causes.{HasAll, IsComplete}
+use Rattle.console.specs.Did.{Does}
+use Rattle.console.proofs.PromiseLemmas.{follow_ends, needs, one_form, renewal_ends, ship_ends}
 use Rattle.console.proofs.commands.console.Goals as goal
 
 -- a call that opened no session did what it did with this status, and with no order
@@ -11,60 +12,61 @@ ended_so P before after now ended order status did =
     subst (λ (this : Status). P (call before after (order_told ended.order.items) this)) (sym status)
     (subst (λ (commits : List Committed). P (call before after (order_told commits) now)) (sym order) did)
 
+-- a call that ended as another is done or has no memory as that one
+ended_well : (one two : Status) → one ≡ two → (two ≡ Status.Done) ⊎ (two ≡ Status.NoMemory) → (one ≡ Status.Done) ⊎ (one ≡ Status.NoMemory)
+ended_well one two same = subst (λ (status : Status). (status ≡ Status.Done) ⊎ (status ≡ Status.NoMemory)) (sym same)
+
+module _ {W : Type 0} (G : Ghosts W) (left : Option (List ℕ)) (before : W) (words : List (String Global)) (found form : Command) (said : IsForm found words) (same : found ≡ form) where
+  asked : IsForm form words
+  asked = subst (λ (this : Command). IsForm this words) same said
+
+  needed : IsComplete G words left before → HasAll G form left before
+  needed = needs G left before words form asked
+
 pub returns-in-Renew-clause-unread : goal.returns-in-Renew-clause-unread
 returns-in-Renew-clause-unread g c = λ none. absurd (none (inr (inr (inl (c.in-Renew.bank_bytes, subst (λ (form : Command). IsForm form c.args.words.now) c.in-Renew.is c.in-Some.ensures)))))
 
 pub returns-in-Renew-clause-complete : goal.returns-in-Renew-clause-complete
 returns-in-Renew-clause-complete g c = λ complete calm disk put.
-    let asked : IsForm (Command.Renew c.in-Renew.bank_bytes) c.args.words.now = subst (λ (form : Command). IsForm form c.args.words.now) c.in-Renew.is c.in-Some.ensures in
-    let ended = c.without_events-in-Renew.ensures in
-    let did = c.renew_store.ensures in
-    subst (λ (status : Status). (status ≡ Status.Done) ⊎ (status ≡ Status.NoMemory)) (sym ended.status)
-    (renewal_promise g.W.Outside c.args.words.now c.in-Renew.bank_bytes asked (given g.S.Source c.args.job.now c.renew_store.new.source) c.args.outside.now c.renew_store.new.outside []
-    c.renew_store.result did.renewed did.only complete calm (λ is. disk (did.faults.outside.disk is)) (λ is. put (did.faults.outside.put is)))
+    let has = needed g.W.Outside (g.S.Source.left c.args.job.now) c.args.outside.now c.args.words.now _ (Command.Renew c.in-Renew.bank_bytes) c.in-Some.ensures c.in-Renew.is complete in
+    ended_well _ _ c.without_events-in-Renew.ensures.status
+    (renewal_ends g.W.Outside (given g.S.Source c.args.job.now c.renew_store.new.source) c.args.outside.now c.renew_store.new.outside [] has.0 has.1 calm c.in-Renew.bank_bytes c.renew_store.result
+    c.renew_store.ensures.renewed c.renew_store.ensures.only (λ is. disk (c.renew_store.ensures.faults.outside.disk is)) (λ is. put (c.renew_store.ensures.faults.outside.put is)))
 
 pub returns-in-Ship-clause-complete : goal.returns-in-Ship-clause-complete
 returns-in-Ship-clause-complete g c = λ complete calm disk put.
-    let asked : IsForm (Command.Ship c.in-Ship.from) c.args.words.now = subst (λ (form : Command). IsForm form c.args.words.now) c.in-Ship.is c.in-Some.ensures in
-    let ended = c.without_events-in-Ship.ensures in
-    let did = c.ship_store.ensures in
-    subst (λ (status : Status). (status ≡ Status.Done) ⊎ (status ≡ Status.NoMemory)) (sym ended.status)
-    (ship_promise g.W.Outside (g.S.Source.left c.args.job.now) c.args.outside.now c.ship_store.new.outside [] c.args.words.now c.in-Ship.from asked c.ship_store.result did.shipped did.only complete (λ is. disk (did.faults.disk is)) (λ is. put (did.faults.put is)))
+    let has = needed g.W.Outside (g.S.Source.left c.args.job.now) c.args.outside.now c.args.words.now _ (Command.Ship c.in-Ship.from) c.in-Some.ensures c.in-Ship.is complete in
+    ended_well _ _ c.without_events-in-Ship.ensures.status
+    (ship_ends g.W.Outside (g.S.Source.left c.args.job.now) c.args.outside.now c.ship_store.new.outside [] c.in-Ship.from c.ship_store.result has
+    c.ship_store.ensures.shipped c.ship_store.ensures.only (λ is. disk (c.ship_store.ensures.faults.disk is)) (λ is. put (c.ship_store.ensures.faults.put is)))
 
 pub returns-in-Follow-clause-complete : goal.returns-in-Follow-clause-complete
 returns-in-Follow-clause-complete g c = λ complete calm disk put.
-    let asked : IsForm Command.Follow c.args.words.now = subst (λ (form : Command). IsForm form c.args.words.now) c.in-Follow.is c.in-Some.ensures in
-    let ended = c.without_events-in-Follow.ensures in
-    let did = c.follow_source.ensures in
-    subst (λ (status : Status). (status ≡ Status.Done) ⊎ (status ≡ Status.NoMemory)) (sym ended.status)
-    (follow_promise g.W.Outside (g.S.Source.left c.args.job.now) c.args.outside.now c.follow_source.new.outside [] c.args.words.now asked (g.S.Source.left c.follow_source.new.source) (g.S.Source.faults c.args.job.now) (g.S.Source.faults c.follow_source.new.source)
-    c.follow_source.result did.followed did.only complete calm (λ is. disk (did.faults.outside.disk is)) (λ is. put (did.faults.outside.put is)))
+    let has = needed g.W.Outside (g.S.Source.left c.args.job.now) c.args.outside.now c.args.words.now _ Command.Follow c.in-Some.ensures c.in-Follow.is complete in
+    ended_well _ _ c.without_events-in-Follow.ensures.status
+    (follow_ends g.W.Outside (g.S.Source.left c.args.job.now) c.args.outside.now c.follow_source.new.outside [] (g.S.Source.left c.follow_source.new.source) (g.S.Source.faults c.args.job.now) (g.S.Source.faults c.follow_source.new.source) has calm
+    c.follow_source.result c.follow_source.ensures.followed.by_status c.follow_source.ensures.only (λ is. disk (c.follow_source.ensures.faults.outside.disk is)) (λ is. put (c.follow_source.ensures.faults.outside.put is)))
 
 pub returns-in-Audit-clause-complete : goal.returns-in-Audit-clause-complete
 returns-in-Audit-clause-complete g c = λ complete calm disk put.
-    let asked : IsForm Command.Audit c.args.words.now = subst (λ (form : Command). IsForm form c.args.words.now) c.in-Audit.is c.in-Some.ensures in
-    let ended = c.without_events-in-Audit.ensures in
-    subst (λ (status : Status). (status ≡ Status.Done) ⊎ (status ≡ Status.NoMemory)) (sym ended.status)
-    (c.audit_source.ensures.complete (audits g.W.Outside (g.S.Source.left c.args.job.now) c.args.outside.now c.args.words.now complete asked) calm put)
+    let has = needed g.W.Outside (g.S.Source.left c.args.job.now) c.args.outside.now c.args.words.now _ Command.Audit c.in-Some.ensures c.in-Audit.is complete in
+    ended_well _ _ c.without_events-in-Audit.ensures.status
+    (c.audit_source.ensures.complete has calm put)
 
 pub returns-in-Trace-clause-complete : goal.returns-in-Trace-clause-complete
 returns-in-Trace-clause-complete g c = λ complete calm disk put.
-    let asked : IsForm (Command.Trace c.in-Trace.activation) c.args.words.now = subst (λ (form : Command). IsForm form c.args.words.now) c.in-Trace.is c.in-Some.ensures in
-    let ended = c.without_events-in-Trace.ensures in
-    subst (λ (status : Status). (status ≡ Status.Done) ⊎ (status ≡ Status.NoMemory)) (sym ended.status)
-    (c.trace_source.ensures.complete (traces g.W.Outside (g.S.Source.left c.args.job.now) c.args.outside.now c.args.words.now complete c.in-Trace.activation asked) calm put)
+    let has = needed g.W.Outside (g.S.Source.left c.args.job.now) c.args.outside.now c.args.words.now _ (Command.Trace c.in-Trace.activation) c.in-Some.ensures c.in-Trace.is complete in
+    ended_well _ _ c.without_events-in-Trace.ensures.status
+    (c.trace_source.ensures.complete has calm put)
 
 pub returns-in-New-clause-did : goal.returns-in-New-clause-did
-returns-in-New-clause-did g c =
-    let ended = c.without_events-in-New in
-    made_as_said g.W.Outside (given g.S.Source c.args.job.now c.args.job.now) c.args.outside.now c.make_store.new.outside ended.result c.args.words.now c.in-New.header
-    (subst (λ (form : Command). IsForm form c.args.words.now) c.in-New.is c.in-Some.ensures)
-    (ended_so (Made g.W.Outside c.in-New.header) c.args.outside.now c.make_store.new.outside c.make_store.result ended.result ended.ensures.order ended.ensures.status c.make_store.ensures.made)
+returns-in-New-clause-did g c = λ form says.
+    subst (λ (this : Command). Does g.W.Outside this (given g.S.Source c.args.job.now c.args.job.now) c.args.outside.now c.make_store.new.outside c.without_events-in-New.result)
+    (one_form c.args.words.now (Command.New c.in-New.header) form (subst (λ (this : Command). IsForm this c.args.words.now) c.in-New.is c.in-Some.ensures) says)
+    (ended_so (Made g.W.Outside c.in-New.header) c.args.outside.now c.make_store.new.outside c.make_store.result c.without_events-in-New.result c.without_events-in-New.ensures.order c.without_events-in-New.ensures.status c.make_store.ensures.made)
 
 pub returns-in-Trace-clause-did : goal.returns-in-Trace-clause-did
-returns-in-Trace-clause-did g c =
-    let ended = c.without_events-in-Trace in
-    let source = given g.S.Source c.args.job.now c.trace_source.new.source in
-    traced_as_said g.W.Outside source c.args.outside.now c.trace_source.new.outside ended.result c.args.words.now c.in-Trace.activation
-    (subst (λ (form : Command). IsForm form c.args.words.now) c.in-Trace.is c.in-Some.ensures)
-    (ended_so (TracedFrom g.W.Outside c.in-Trace.activation source) c.args.outside.now c.trace_source.new.outside c.trace_source.result ended.result ended.ensures.order ended.ensures.status c.trace_source.ensures.traced)
+returns-in-Trace-clause-did g c = λ form says.
+    subst (λ (this : Command). Does g.W.Outside this (given g.S.Source c.args.job.now c.trace_source.new.source) c.args.outside.now c.trace_source.new.outside c.without_events-in-Trace.result)
+    (one_form c.args.words.now (Command.Trace c.in-Trace.activation) form (subst (λ (this : Command). IsForm this c.args.words.now) c.in-Trace.is c.in-Some.ensures) says)
+    (ended_so (TracedFrom g.W.Outside c.in-Trace.activation (given g.S.Source c.args.job.now c.trace_source.new.source)) c.args.outside.now c.trace_source.new.outside c.trace_source.result c.without_events-in-Trace.result c.without_events-in-Trace.ensures.order c.without_events-in-Trace.ensures.status c.trace_source.ensures.traced)

@@ -1,8 +1,9 @@
-use Rattle.console.proofs.Lemmas.{◌∙◌, one_disk}
+use Rattle.console.proofs.Lemmas.{◌∙◌, ap, one_form}
+use Rattle.console.specs.Wants.{disk_for}
 use Rattle.console.proofs.wants.disk_of.Goals as goal
 
 pub returns-in-Some-clause-asked : goal.returns-in-Some-clause-asked
-returns-in-Some-clause-asked c form says = c.kind_for.ensures ∙ one_disk c.args.words.now c.in-Some.command form c.in-Some.ensures says
+returns-in-Some-clause-asked c form says = c.kind_for.ensures ∙ ap disk_for (one_form c.args.words.now c.in-Some.command form c.in-Some.ensures says)
 
 pub returns-in-None-clause-asked : goal.returns-in-None-clause-asked
 returns-in-None-clause-asked c form says = absurd (c.in-None.ensures form says)
