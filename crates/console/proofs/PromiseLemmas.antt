@@ -80,9 +80,9 @@ pub one_form : (words : List (String Global)) (one two : Command) → IsForm one
 one_form words one two first second =
     one_of one two words (holds (mark_of one) (mark_of two) (sym (mark_is one) ∙ ap mark (one_word one two (map string_bytes words) first.says second.says) ∙ mark_is two)) first second
 
--- what a command needs is there
-pub needs : {W : Type 0} (G : Ghosts W) (left : Option (List ℕ)) (outside : W) (words : List (String Global)) (asked : Command) → IsForm asked words → IsComplete G words left outside → HasAll G asked left outside
-needs G left outside words asked is complete = subst (λ (form : Command). HasAll G form left outside) (one_form words complete.form asked complete.asks is) complete.has
+-- what the command that was found needs is there
+pub needs : {W : Type 0} (G : Ghosts W) (left : Option (List ℕ)) (outside : W) (words : List (String Global)) (found asked : Command) → IsForm found words → found ≡ asked → IsComplete G words left outside → HasAll G asked left outside
+needs G left outside words found asked is same complete = subst (λ (form : Command). HasAll G form left outside) (one_form words complete.form found complete.asks is ∙ same) complete.has
 
 -- a renewal
 module _ {W : Type 0} (G : Ghosts W) where

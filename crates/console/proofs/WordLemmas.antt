@@ -51,12 +51,8 @@ no_number (first ∷ words) (suc i) word here is none (number ∷ numbers) are =
 -- words are one list of numbers
 same_numbers : (one two : List (ℕ × Bool)) → map (λ number. Some number) one ≡ map (λ number. Some number) two → one ≡ two
 same_numbers [] [] same = refl
-same_numbers [] (second ∷ two) same = cc
-same_numbers (first ∷ one) [] same = cc
-same_numbers (first ∷ one) (second ∷ two) same =
-    let head : first ≡ second = cc in
-    let tail = same_numbers one two (cc) in
-    cc
+same_numbers (first ∷ one) (second ∷ two) same = let head : first ≡ second = cc in let tail = same_numbers one two (cc) in cc
+same_numbers _ _ same = cc
 
 pub one_list : (words : List (List ℕ)) (one two : List (ℕ × Bool)) → AreNumbers words one → AreNumbers words two → one ≡ two
 one_list words one two first second = same_numbers one two (sym first ∙ second)
@@ -90,8 +86,6 @@ as_many words numbers are = sym (length-map words marked_of) ∙ ap length are �
 -- numbers are those of one list of segments with one list of flags
 pub one_spread : (one two : List (ℕ × ℕ)) (fine other : ℕ) → fine < 2 ^ length one → other < 2 ^ length two → spread one fine ≡ spread two other → (one ≡ two) × (fine ≡ other)
 one_spread [] [] fine other few less same = (refl, omega (arith, few, less))
-one_spread [] (second ∷ two) fine other few less same = cc
-one_spread (first ∷ one) [] fine other few less same = cc
 one_spread (first ∷ one) (second ∷ two) fine other few less same =
     let behind : spread one (fine / 2) ≡ spread two (other / 2) = ap (drop 2) same in
     let tail = one_spread one two (fine / 2) (other / 2) (half_below fine (length one) few) (half_below other (length two) less) behind in
@@ -99,6 +93,7 @@ one_spread (first ∷ one) (second ∷ two) fine other few less same =
     let pages : first.1 ≡ second.1 = ap (λ (those : List (ℕ × Bool)). (get_or those 1 (0, false)).0) same in
     let low : (fine % 2 == 1) ≡ (other % 2 == 1) = ap (λ (those : List (ℕ × Bool)). (get_or those 1 (0, false)).1) same in
     ((λ i. (identifier i, pages i) ∷ tail.0 i), same_flags fine other tail.1 low)
+one_spread _ _ fine other few less same = cc
 
 pub length-spread : (segments : List (ℕ × ℕ)) (fine : ℕ) → length (spread segments fine) ≡ 2 * length segments
 length-spread [] fine = refl
@@ -116,8 +111,6 @@ behind_first numbers segment more fine is = rw is (behind_two (segment.0, false)
 pub alone : (words : List (String Global)) (word : String Global) (bytes : List ℕ) (result : Option Command) → 1 ≤ length words → length words < 2 → word ≡ get_or words 0 word → bytes ≡ string_bytes word
     → FindsOne (IsCommandAlone bytes) result
     → MatchOption result (IsNoForm words) (λ command. IsForm command words)
-alone [] word bytes result some one is same given = absurd (omega arith)
-alone (first ∷ second ∷ more) word bytes result some one is same given = absurd (omega arith)
 alone (first ∷ []) word bytes None some one is same given = no
   where
     no : (form : Command) → IsForm form (first ∷ []) → ⊥
@@ -125,26 +118,13 @@ alone (first ∷ []) word bytes None some one is same given = no
     no command.List form = let says = form.says in given command.List (tt, cc)
     no command.Drill form = let says = form.says in given command.Drill (tt, cc)
     no command.Audit form = let says = form.says in given command.Audit (tt, cc)
-    no command.Run form = let are = form.says.are in cc
-    no (command.Show range) form = let are = form.says.are in cc
-    no (command.New header) form = let are = form.says.are in cc
-    no (command.Renew bank) form = let are = form.says.are in cc
-    no (command.Ship from) form = let are = form.says.are in cc
-    no command.Follow form = let are = form.says.are in cc
-    no (command.Big transfers) form = let are = form.says.are in cc
-    no (command.Trace activation) form = let are = form.says.are in cc
+    no _ form = let are = form.says.are in cc
 alone (first ∷ []) word bytes (Some command.Try) some one is same given = let said = given.1 in record { says = cc; within = tt }
 alone (first ∷ []) word bytes (Some command.List) some one is same given = let said = given.1 in record { says = cc; within = tt }
 alone (first ∷ []) word bytes (Some command.Drill) some one is same given = let said = given.1 in record { says = cc; within = tt }
 alone (first ∷ []) word bytes (Some command.Audit) some one is same given = let said = given.1 in record { says = cc; within = tt }
-alone (first ∷ []) word bytes (Some command.Run) some one is same given = absurd given.0
-alone (first ∷ []) word bytes (Some (command.Show range)) some one is same given = absurd given.0
-alone (first ∷ []) word bytes (Some (command.New header)) some one is same given = absurd given.0
-alone (first ∷ []) word bytes (Some (command.Renew bank)) some one is same given = absurd given.0
-alone (first ∷ []) word bytes (Some (command.Ship from)) some one is same given = absurd given.0
-alone (first ∷ []) word bytes (Some command.Follow) some one is same given = absurd given.0
-alone (first ∷ []) word bytes (Some (command.Big transfers)) some one is same given = absurd given.0
-alone (first ∷ []) word bytes (Some (command.Trace activation)) some one is same given = absurd given.0
+alone (first ∷ []) word bytes (Some _) some one is same given = absurd given.0
+alone _ word bytes result some one is same given = absurd (omega arith)
 
 -- a word that isn't empty
 pub not_empty : (bytes : List ℕ) (empty : Bool) → empty ≡ (length bytes == 0) → empty ≡ false → bytes ≢ []
@@ -158,8 +138,6 @@ pub with_store : (words : List (String Global)) (word store : String Global) (by
     → ((form : Command) → IsNumberedForm words form → ⊥) → ((from : ℕ) → IsForm (command.Ship from) words → ⊥)
     → FindsOne (IsCommandOn bytes numbers) result
     → MatchOption result (IsNoForm words) (λ command. IsForm command words)
-with_store [] word store bytes numbers result two is there same some are no_number_said no_ship given = absurd (omega arith)
-with_store (first ∷ []) word store bytes numbers result two is there same some are no_number_said no_ship given = absurd (omega arith)
 with_store (first ∷ second ∷ rest) word store bytes numbers result two is there same some are no_number_said no_ship given = answered result given
   where
     these : AreNumbers (map string_bytes rest) numbers
@@ -185,36 +163,23 @@ with_store (first ∷ second ∷ rest) word store bytes numbers result two is th
     no none command.List form = let says = form.says in cc
     no none command.Drill form = let says = form.says in cc
     no none command.Audit form = let says = form.says in cc
-    no none command.Run form = unnamed command.Run none tt form.within form.says
-    no none (command.Show range) form = unnamed (command.Show range) none tt form.within form.says
-    no none (command.New header) form = unnamed (command.New header) none tt form.within form.says
-    no none (command.Renew bank) form = unnamed (command.Renew bank) none tt form.within form.says
     no none (command.Ship from) form = no_ship from form
-    no none command.Follow form = unnamed command.Follow none tt form.within form.says
     no none (command.Big transfers) form = no_number_said (command.Big transfers) (tt, form)
     no none (command.Trace activation) form = no_number_said (command.Trace activation) (tt, form)
+    no none form is = unnamed form none tt is.within is.says
 
-    answered : (result : Option Command)
-        → FindsOne (IsCommandOn bytes numbers) result
-        → MatchOption result (IsNoForm (first ∷ second ∷ rest)) (λ command. IsForm command (first ∷ second ∷ rest))
+    answered : (result : Option Command) → FindsOne (IsCommandOn bytes numbers) result → MatchOption result (IsNoForm (first ∷ second ∷ rest)) (λ command. IsForm command (first ∷ second ∷ rest))
     answered None given = no given
-    answered (Some command.Try) given = absurd given.0
-    answered (Some command.List) given = absurd given.0
-    answered (Some command.Drill) given = absurd given.0
-    answered (Some command.Audit) given = absurd given.0
-    answered (Some (command.Big transfers)) given = absurd given.0
-    answered (Some (command.Trace activation)) given = absurd given.0
     answered (Some command.Run) given = record { says = named command.Run given.1 given.2; within = given.3 }
     answered (Some (command.Show range)) given = record { says = named (command.Show range) given.1 given.2; within = given.3 }
     answered (Some (command.New header)) given = record { says = named (command.New header) given.1 given.2; within = given.3 }
     answered (Some (command.Renew bank)) given = record { says = named (command.Renew bank) given.1 given.2; within = given.3 }
-    answered (Some (command.Ship from)) given = absurd given.0
     answered (Some command.Follow) given = record { says = named command.Follow given.1 given.2; within = given.3 }
+    answered (Some _) given = absurd given.0
+with_store _ word store bytes numbers result two is there same some are no_number_said no_ship given = absurd (omega arith)
 
 -- behind a store there are words that aren't numbers, or too many
 pub without_numbers : (words : List (String Global)) → 2 ≤ length words → ((numbers : List (ℕ × Bool)) → length numbers ≤ 31 → AreNumbers (map string_bytes (take (length words - 2) (drop 2 words))) numbers → ⊥) → ((form : Command) → IsNumberedForm words form → ⊥) → ((from : ℕ) → IsForm (command.Ship from) words → ⊥) → IsNoForm words
-without_numbers [] two none no_number_said no_ship form is = omega arith
-without_numbers (first ∷ []) two none no_number_said no_ship form is = omega arith
 without_numbers (first ∷ second ∷ rest) two none no_number_said no_ship form is = no form is
   where
     unnamed : (form : Command) → length (numbers_of form) ≤ 31 → NamesStore form (map string_bytes (first ∷ second ∷ rest)) → ⊥
@@ -227,14 +192,12 @@ without_numbers (first ∷ second ∷ rest) two none no_number_said no_ship form
     no command.List form = let says = form.says in cc
     no command.Drill form = let says = form.says in cc
     no command.Audit form = let says = form.says in cc
-    no command.Run form = unnamed command.Run (omega arith) form.says
-    no (command.Show range) form = unnamed (command.Show range) (omega arith) form.says
-    no (command.Renew bank) form = unnamed (command.Renew bank) (omega arith) form.says
     no (command.Ship from) form = no_ship from form
-    no command.Follow form = unnamed command.Follow (omega arith) form.says
     no (command.New header) form = unnamed (command.New header) (let few = form.within.1.few in omega (arith, few, length-spread header.directory.segments header.directory.fine)) form.says
     no (command.Big transfers) form = no_number_said (command.Big transfers) (tt, form)
     no (command.Trace activation) form = no_number_said (command.Trace activation) (tt, form)
+    no form is = unnamed form (omega arith) is.says
+without_numbers _ two none no_number_said no_ship form is = omega arith
 
 -- words that name a store have one list of numbers
 pub same_words : (one two : Command) (words : List (List ℕ)) → NamesStore one words → NamesStore two words → numbers_of one ≡ numbers_of two
@@ -258,10 +221,6 @@ pub with_long : (words : List (String Global)) (word store number : String Globa
     → string_bytes word ≡ codes "ship" → string_bytes store ≢ []
     → MatchOption result ((n : ℕ) → IsLong (string_bytes number) n → ⊥) (λ n. IsLong (string_bytes number) n)
     → MatchOption result ((from : ℕ) → IsForm (command.Ship from) words → ⊥) (λ from. IsForm (command.Ship from) words)
-with_long [] word store number result three is there last said some given = absurd (omega (arith, three))
-with_long (first ∷ []) word store number result three is there last said some given = absurd (omega (arith, three))
-with_long (first ∷ second ∷ []) word store number result three is there last said some given = absurd (omega (arith, three))
-with_long (first ∷ second ∷ third ∷ fourth ∷ rest) word store number result three is there last said some given = absurd (omega (arith, three))
 with_long (first ∷ second ∷ third ∷ []) word store number None three is there last said some given = λ from form.
     let are = form.says.are in
     let same : form.says.number ≡ string_bytes number = cc in
@@ -270,6 +229,7 @@ with_long (first ∷ second ∷ third ∷ []) word store number (Some from) thre
   says = record { store = string_bytes store; some = some; number = string_bytes number; are = cc; say = given };
   within = tt;
 }
+with_long _ word store number result three is there last said some given = absurd (omega (arith, three))
 
 -- and one number from which records are shipped
 pub one_from : (words : List (String Global)) (one two : ℕ) → IsForm (command.Ship one) words → IsForm (command.Ship two) words → one ≡ two
@@ -294,8 +254,7 @@ parsed_long {E} word result few plain gives =
 one_page : (one two : PageSize) → new_word one ≡ new_word two → one ≡ two
 one_page Two Two same = refl
 one_page Four Four same = refl
-one_page Two Four same = absurd (cc)
-one_page Four Two same = absurd (cc)
+one_page _ _ same = absurd (cc)
 
 pub flags_few : (page : PageSize) (segments : List (ℕ × ℕ)) (fine : ℕ) → AreFlags page segments fine → fine < 2 ^ length segments
 flags_few Two segments fine flags = omega (arith, flags, pow_pos (length segments))

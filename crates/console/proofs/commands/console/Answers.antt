@@ -1,7 +1,6 @@
-use Rattle.console.proofs.Common.{◌≡◌, ◌⊎◌, List, Option, ℕ, [], inl, inr, subst, sym, String, Global, Ghosts, Call, call, given, Status, TracedFrom, Command, IsForm, Made, Ended}
+use Rattle.console.proofs.Common.{◌≡◌, ◌⊎◌, List, [], inl, inr, subst, sym, Call, call, given, Status, TracedFrom, Command, IsForm, Made, Ended}
 use Rattle.desk.specs.Answers.{order_told}
 use Rattle.desk.specs.declared.answers.Committed.{Committed}
-use Rattle.console.specs.Causes.{HasAll, IsComplete}
 use Rattle.console.specs.Did.{Does}
 use Rattle.console.proofs.PromiseLemmas.{follow_ends, needs, one_form, renewal_ends, ship_ends}
 use Rattle.console.proofs.commands.console.Goals as goal
@@ -16,48 +15,39 @@ ended_so P before after now ended order status did =
 ended_well : (one two : Status) → one ≡ two → (two ≡ Status.Done) ⊎ (two ≡ Status.NoMemory) → (one ≡ Status.Done) ⊎ (one ≡ Status.NoMemory)
 ended_well one two same = subst (λ (status : Status). (status ≡ Status.Done) ⊎ (status ≡ Status.NoMemory)) (sym same)
 
-module _ {W : Type 0} (G : Ghosts W) (left : Option (List ℕ)) (before : W) (words : List (String Global)) (found form : Command) (said : IsForm found words) (same : found ≡ form) where
-  asked : IsForm form words
-  asked = subst (λ (this : Command). IsForm this words) same said
-
-  needed : IsComplete G words left before → HasAll G form left before
-  needed = needs G left before words form asked
-
 pub returns-in-Renew-clause-unread : goal.returns-in-Renew-clause-unread
 returns-in-Renew-clause-unread g c = λ none. absurd (none (inr (inr (inl (c.in-Renew.bank_bytes, subst (λ (form : Command). IsForm form c.args.words.now) c.in-Renew.is c.in-Some.ensures)))))
 
 pub returns-in-Renew-clause-complete : goal.returns-in-Renew-clause-complete
 returns-in-Renew-clause-complete g c = λ complete calm disk put.
-    let has = needed g.W.Outside (g.S.Source.left c.args.job.now) c.args.outside.now c.args.words.now _ (Command.Renew c.in-Renew.bank_bytes) c.in-Some.ensures c.in-Renew.is complete in
+    let has = needs g.W.Outside (g.S.Source.left c.args.job.now) c.args.outside.now c.args.words.now _ (Command.Renew c.in-Renew.bank_bytes) c.in-Some.ensures c.in-Renew.is complete in
     ended_well _ _ c.without_events-in-Renew.ensures.status
     (renewal_ends g.W.Outside (given g.S.Source c.args.job.now c.renew_store.new.source) c.args.outside.now c.renew_store.new.outside [] has.0 has.1 calm c.in-Renew.bank_bytes c.renew_store.result
     c.renew_store.ensures.renewed c.renew_store.ensures.only (λ is. disk (c.renew_store.ensures.faults.outside.disk is)) (λ is. put (c.renew_store.ensures.faults.outside.put is)))
 
 pub returns-in-Ship-clause-complete : goal.returns-in-Ship-clause-complete
 returns-in-Ship-clause-complete g c = λ complete calm disk put.
-    let has = needed g.W.Outside (g.S.Source.left c.args.job.now) c.args.outside.now c.args.words.now _ (Command.Ship c.in-Ship.from) c.in-Some.ensures c.in-Ship.is complete in
+    let has = needs g.W.Outside (g.S.Source.left c.args.job.now) c.args.outside.now c.args.words.now _ (Command.Ship c.in-Ship.from) c.in-Some.ensures c.in-Ship.is complete in
     ended_well _ _ c.without_events-in-Ship.ensures.status
     (ship_ends g.W.Outside (g.S.Source.left c.args.job.now) c.args.outside.now c.ship_store.new.outside [] c.in-Ship.from c.ship_store.result has
     c.ship_store.ensures.shipped c.ship_store.ensures.only (λ is. disk (c.ship_store.ensures.faults.disk is)) (λ is. put (c.ship_store.ensures.faults.put is)))
 
 pub returns-in-Follow-clause-complete : goal.returns-in-Follow-clause-complete
 returns-in-Follow-clause-complete g c = λ complete calm disk put.
-    let has = needed g.W.Outside (g.S.Source.left c.args.job.now) c.args.outside.now c.args.words.now _ Command.Follow c.in-Some.ensures c.in-Follow.is complete in
+    let has = needs g.W.Outside (g.S.Source.left c.args.job.now) c.args.outside.now c.args.words.now _ Command.Follow c.in-Some.ensures c.in-Follow.is complete in
     ended_well _ _ c.without_events-in-Follow.ensures.status
     (follow_ends g.W.Outside (g.S.Source.left c.args.job.now) c.args.outside.now c.follow_source.new.outside [] (g.S.Source.left c.follow_source.new.source) (g.S.Source.faults c.args.job.now) (g.S.Source.faults c.follow_source.new.source) has calm
     c.follow_source.result c.follow_source.ensures.followed.by_status c.follow_source.ensures.only (λ is. disk (c.follow_source.ensures.faults.outside.disk is)) (λ is. put (c.follow_source.ensures.faults.outside.put is)))
 
 pub returns-in-Audit-clause-complete : goal.returns-in-Audit-clause-complete
 returns-in-Audit-clause-complete g c = λ complete calm disk put.
-    let has = needed g.W.Outside (g.S.Source.left c.args.job.now) c.args.outside.now c.args.words.now _ Command.Audit c.in-Some.ensures c.in-Audit.is complete in
-    ended_well _ _ c.without_events-in-Audit.ensures.status
-    (c.audit_source.ensures.complete has calm put)
+    let has = needs g.W.Outside (g.S.Source.left c.args.job.now) c.args.outside.now c.args.words.now _ Command.Audit c.in-Some.ensures c.in-Audit.is complete in
+    ended_well _ _ c.without_events-in-Audit.ensures.status (c.audit_source.ensures.complete has calm put)
 
 pub returns-in-Trace-clause-complete : goal.returns-in-Trace-clause-complete
 returns-in-Trace-clause-complete g c = λ complete calm disk put.
-    let has = needed g.W.Outside (g.S.Source.left c.args.job.now) c.args.outside.now c.args.words.now _ (Command.Trace c.in-Trace.activation) c.in-Some.ensures c.in-Trace.is complete in
-    ended_well _ _ c.without_events-in-Trace.ensures.status
-    (c.trace_source.ensures.complete has calm put)
+    let has = needs g.W.Outside (g.S.Source.left c.args.job.now) c.args.outside.now c.args.words.now _ (Command.Trace c.in-Trace.activation) c.in-Some.ensures c.in-Trace.is complete in
+    ended_well _ _ c.without_events-in-Trace.ensures.status (c.trace_source.ensures.complete has calm put)
 
 pub returns-in-New-clause-did : goal.returns-in-New-clause-did
 returns-in-New-clause-did g c = λ form says.
