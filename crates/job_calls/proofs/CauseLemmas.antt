@@ -33,20 +33,14 @@ opens-by G before start now desk new replayed.PutFault stood ends undamaged = op
 
 -- puts that all went well
 pub put-same : (start now : ℕ) (result : Replayed) → FailsOnlyCounted start now (way_of result) → (status_of_replay result ≡ Status.PutFault → ⊥) → now ≡ start
-put-same start now replayed.Ended cause un = cause.done
-put-same start now replayed.Closed cause un = cause.done
-put-same start now (replayed.Damaged at) cause un = cause.done
 put-same start now replayed.PutFault cause un = absurd (un refl)
+put-same start now _ cause un = cause.done
 
 -- a put that failed, and a disk that did
 pub put-rose : (start now : ℕ) (result : Replayed) → FailsOnlyCounted start now (way_of result) → status_of_replay result ≡ Status.PutFault → Rose start now
-put-rose start now replayed.Ended cause is = absurd cc
-put-rose start now replayed.Closed cause is = absurd cc
-put-rose start now (replayed.Damaged at) cause is = absurd cc
 put-rose start now replayed.PutFault cause is = cause.failed
+put-rose start now _ cause is = absurd cc
 
 pub disk-rose : {W : Type 0} (G : Ghosts W) (start now : W) (desk new : Session) (result : Replayed) → desk.closed ≡ false → IfOk (way_of result) (GoesBy ghosts G desk new start now) → status_of_replay result ≡ Status.DiskFault → Rose (G.disk_faults start) (G.disk_faults now)
-disk-rose G start now desk new replayed.Ended still ends is = absurd cc
 disk-rose G start now desk new replayed.Closed still ends is = ends.1 still
-disk-rose G start now desk new (replayed.Damaged at) still ends is = absurd cc
-disk-rose G start now desk new replayed.PutFault still ends is = absurd cc
+disk-rose G start now desk new _ still ends is = absurd cc

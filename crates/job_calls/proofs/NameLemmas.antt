@@ -1,7 +1,7 @@
 -- The names and events of a job that is ready.
 use Rattle.job_calls.proofs.Common.{◌≡◌, ◌≢◌, ℕ, suc, ◌<◌, List, [], ◌∷◌, length, refl, sym, ap, subst, arith, All, get_or, count_by-le-length, Ghosts, HoldsStore, IsUnbroken, Event, IsEventAmong, IsName, IsAsked, Job, Program, Session, activity, ghosts, is_turn, begins_in}
 use Rattle.std.proofs.lemmas.Bool.Decides.{nat_tests}
-use Rattle.desk.specs.declared.event.Event.TheVariants.{Begin, Turn, Checkpoint, Crash}
+use Rattle.desk.specs.declared.event.Event.TheVariants.{Checkpoint, Crash}
 use Rattle.desk_law.proofs.Unbroken.{unbroken_more}
 use Rattle.job_text.specs.Ready as ready
 use Rattle.schedule_replay.specs.Answered.{IsReady}
@@ -17,10 +17,9 @@ name-unbroken name is = bytes-unbroken name (name_no_feed name is)
 
 -- an event that a job may have may be asked
 pub asked-among : (programs : ℕ) (event : Event) → IsEventAmong programs event → IsAsked programs event
-asked-among programs (Begin program args) is = is
-asked-among programs (Turn activation limit) is = is
 asked-among programs Checkpoint is = tt
 asked-among programs Crash is = tt
+asked-among programs _ is = is
 
 -- the events of a job that is ready may be asked of a session that has just opened for their begins
 pub ready-to-run : {W : Type 0} (G : Ghosts W) (job : Job) (s : Session) (outside : W) (begins : ℕ) (events : List Event) → events ≡ job.events.items → begins ≡ begins_in job.events.items

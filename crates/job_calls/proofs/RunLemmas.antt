@@ -179,14 +179,7 @@ module _ {W : Type 0} (G : Ghosts W) (fewer_later : FewerLater G) (printed_now :
 
   module _ {T : Type 0} {shut : T → Bool} (result : Result T Failed) (put : Result ℕ Failed) (now : Status) (reports : Reports ghosts G (given (names_of job)) job.events.items new (span start after) shut result) where
     abbrev half : RanFrom G (given (names_of job)) job.events.items new (span start after)
-    half = record {
-      taken = reports.taken;
-      rest = reports.rest;
-      is_run = reports.is_run;
-      to = reports.to;
-      images = reports.images;
-      doubt = reports.doubt;
-    }
+    half = record { taken = reports.taken; rest = reports.rest; is_run = reports.is_run; to = reports.to; images = reports.images; doubt = reports.doubt }
 
     abbrev names : List (List ℕ)
     names = names_of job
@@ -257,8 +250,7 @@ module _ {W : Type 0} (G : Ghosts W) (fewer_later : FewerLater G) (printed_now :
       let reports = replayed-as replayed.Closed is number store standing in
       has_run G fewer_later printed_now job before start after desk new number store standing (opens standing.honest standing.told) asks programs_are same_opened same_honest time asks-calm
       (way_of replayed.Closed) (Ok 0) status.DiskFault reports refl (λ one two bytes prints. prints_well one two bytes _ 0 prints) (λ is. is) (λ is. absurd (cc)) (λ is. reports.closed)
-  did-by (replayed.Damaged offset) is = λ number store standing.
-      replayed-as (replayed.Damaged offset) is number store standing
+  did-by (replayed.Damaged offset) is = λ number store standing. replayed-as (replayed.Damaged offset) is number store standing
   did-by replayed.PutFault is = λ number store standing.
       let reports = replayed-as replayed.PutFault is number store standing in
       has_run G fewer_later printed_now job before start after desk new number store standing (opens standing.honest standing.told) asks programs_are same_opened same_honest time asks-calm
@@ -279,8 +271,6 @@ did-as : {W : Type 0} (G : Ghosts W) (ran other : Type 0) (c : Call W) (session 
 did-as G ran other c session status.Done turns did = turns did
 did-as G ran other c session status.PutFault turns did = turns did
 did-as G ran other c (Some session) status.DiskFault turns did = turns did
-did-as G ran other c None status.DiskFault turns did = did
-did-as G ran other c session (status.Store offset) turns did = did
 did-as G ran other c session _ turns did = did
 
 -- what follows where a session was opened
