@@ -1,7 +1,5 @@
 mod FileLemmas
-mod FollowedLemmas
-mod MadeLemmas
 mod ScreenLemmas
-mod ShownLemmas
+mod StoreLemmas
 mod WordLemmas
 pub mod Common

@@ -7,10 +7,8 @@ use Rattle.console.specs.declared.words.Command.{Command}
 use Rattle.console.specs.declared.words.Command.TheVariants as command
 use Rattle.store_format.specs.Header.{fresh}
 use Rattle.file_runs.proofs.FileLemmas.{run_on_file}
-use Rattle.file_runs.proofs.FollowedLemmas.{follow_on_file}
-use Rattle.file_runs.proofs.MadeLemmas.{renew_on_file, renew_origin, write_on_file}
 use Rattle.file_runs.proofs.ScreenLemmas.{audit_on_screen, drill_on_screen, list_on_screen, load_on_screen, trace_on_screen, try_on_screen}
-use Rattle.file_runs.proofs.ShownLemmas.{show_on_file, ship_on_file}
+use Rattle.file_runs.proofs.StoreLemmas.{follow_on_file, renew_on_file, renew_origin, ship_on_file, show_on_file, write_on_file}
 
 -- the disk of a word on a file is the one that was lent
 pub same_origin : {W : Type 0} (G : Ghosts W) (form : Command) (source : Given) (before after : W) (ended : Ended) → IsOnFile form → Does G form source before after ended → (G.moment after).origin ≡ (G.moment before).origin
