@@ -1,7 +1,8 @@
 -- The names and events of a job that is ready.
-use Rattle.job_calls.proofs.Common.{◌≡◌, ◌≢◌, ℕ, suc, ◌<◌, List, [], ◌∷◌, length, refl, sym, ap, subst, arith, All, get_or, count_by-le-length, Ghosts, HoldsStore, IsUnbroken, Event, IsEventAmong, IsName, IsAsked, Job, Program, Session, activity, ghosts, is_turn, begins_in}
+use Rattle.job_calls.proofs.Common.{◌≡◌, ◌≢◌, ℕ, suc, ◌<◌, ◌≤◌, List, [], ◌∷◌, length, vec_len, refl, sym, ap, subst, arith, All, get_or, count_by-le-length, length-map, Ghosts, Fixed, order_told, HoldsStore, IsUnbroken, Event, IsEventAmong, IsName, IsAsked, Job, Program, Session, activity, fixed_of, ghosts, is_turn, begins_in}
 use Rattle.std.proofs.lemmas.Bool.Decides.{nat_tests}
 use Rattle.desk.specs.declared.event.Event.TheVariants.{Checkpoint, Crash}
+use Rattle.desk.specs.declared.answers.Committed.{Committed}
 use Rattle.desk_law.proofs.Unbroken.{unbroken_more}
 use Rattle.job_text.specs.Ready as ready
 use Rattle.schedule_replay.specs.Answered.{IsReady}
@@ -34,3 +35,10 @@ ready-to-run G job s outside begins events same counted ready made bytes =
       turns = omega (arith, count_by-le-length is_turn job.events.items, ready.few, made.no_turns);
       bytes = bytes;
     })
+
+-- a session tells no more commits than begins were asked of it
+pub few-told : (told : List Committed) (new old : Session) → order_told told ≡ order_told new.order.items → vec_len new.order ≤ new.begins → fixed_of new ≡ fixed_of old → length told ≤ old.begins
+few-told told new old same few fixed =
+    let lengths : length (order_told told) ≡ length (order_told new.order.items) = ap length same in
+    let begins : new.begins ≡ old.begins = ap (λ (fixed : Fixed). fixed.begins) fixed in
+    omega (arith, lengths, length-map {B = ℕ × ℕ} told (λ commit. (commit.activation, commit.steps)), length-map {B = ℕ × ℕ} new.order.items (λ commit. (commit.activation, commit.steps)), new.order.ok.0, few, begins)

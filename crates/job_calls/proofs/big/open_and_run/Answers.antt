@@ -1,5 +1,5 @@
-use Rattle.job_calls.proofs.Common.{rules, ◌≡◌, ◌≤◌, ◌∙◌, ap, sym, subst, arith, length, vec_len, All, List, ℕ, Some, length-map, count_by-le-length, [], Fixed, order_told, Desk, Event, IsSure, held_of, ghosts, is_turn, IsLasting, RunsQuietly, call, Loaded, fixed_of, opening_of, span}
-use Rattle.job_calls.proofs.NameLemmas.{ready-to-run}
+use Rattle.job_calls.proofs.Common.{rules, ◌≡◌, ◌≤◌, ◌∙◌, ap, sym, subst, arith, length, All, List, ℕ, Some, count_by-le-length, [], Fixed, order_told, Desk, Event, IsSure, held_of, ghosts, is_turn, IsLasting, RunsQuietly, call, Loaded, fixed_of, opening_of, span}
+use Rattle.job_calls.proofs.NameLemmas.{few-told, ready-to-run}
 use Rattle.job_calls.proofs.BigLemmas.{faults_told, lasting, loaded, still-holds}
 use Rattle.job_calls.proofs.big.open_and_run.Goals as goal
 
@@ -10,14 +10,11 @@ pub run_quiet-quiet-requires-clause-lasting : goal.run_quiet-quiet-requires-clau
 run_quiet-quiet-requires-clause-lasting g c =
     subst (λ (these : List Event). All IsLasting these) (sym (c.deref.ensures.value ∙ c.requires.load.events)) (lasting c.args.transfers)
 
--- no more commits than begins
 pub filled-requires-clause-room : goal.filled-requires-clause-room
 filled-requires-clause-room g c =
-    let new = c.run_quiet-quiet.new.desk in
-    let told : length (order_told c.order.result.now) ≡ length (order_told new.order.items) = ap length c.order.ensures in
-    let few : vec_len new.order ≤ new.begins = c.run_quiet-quiet.ensures.answered.sound.room.commits in
-    let begins : new.begins ≡ c.in-Ok.session.begins = ap (λ (fixed : Fixed). fixed.begins) c.run_quiet-quiet.ensures.answered.tells.fixed in
-    omega (arith, told, length-map {B = ℕ × ℕ} c.order.result.now (λ commit. (commit.activation, commit.steps)), length-map {B = ℕ × ℕ} new.order.items (λ commit. (commit.activation, commit.steps)), new.order.ok.0, few, begins, c.in-Ok.ensures.new.begins_are, c.requires.room)
+    let ran = c.run_quiet-quiet in
+    let few : length c.order.result.now ≤ c.in-Ok.session.begins = few-told c.order.result.now ran.new.desk c.in-Ok.session c.order.ensures ran.ensures.answered.sound.room.commits ran.ensures.answered.tells.fixed in
+    omega (arith, few, c.in-Ok.ensures.new.begins_are, c.requires.room)
 
 pub returns-clause-loaded : goal.returns-clause-loaded
 returns-clause-loaded g c =

@@ -1,7 +1,7 @@
-use Rattle.job_calls.proofs.Common.{rules, ◌≡◌, ◌∙◌, ap, sym, ◌≤◌, subst, arith, length, vec_len, get_or, All, List, ℕ, refl, Some, map, length-map, count_by-le-length, Ghosts, Fixed, order_told, Desk, IsUnbroken, Event, Job, Session, ghosts, is_turn, HasOpened, Replays, Replayed, call, Status, status_of_replay, OpensBy, HappenedTo, names_of, fixed_of, opening_of, span, order_of, TellsBy}
+use Rattle.job_calls.proofs.Common.{rules, ◌≡◌, ◌∙◌, ap, sym, ◌≤◌, subst, arith, length, get_or, All, List, ℕ, refl, Some, map, count_by-le-length, Ghosts, Fixed, order_told, Desk, IsUnbroken, Event, Job, Session, ghosts, is_turn, HasOpened, Replays, Replayed, call, Status, status_of_replay, OpensBy, HappenedTo, names_of, fixed_of, opening_of, span, order_of, TellsBy}
 use Rattle.arrayvec.specs.ArrayVec.{ArrayVec}
 use Rattle.job_calls.proofs.CauseLemmas.{opens-by, put-rose, put-same, disk-rose}
-use Rattle.job_calls.proofs.NameLemmas.{name-unbroken, ready-to-run}
+use Rattle.job_calls.proofs.NameLemmas.{few-told, name-unbroken, ready-to-run}
 use Rattle.job_calls.proofs.RunLemmas.{happened-by, has-opened, first_desk, first_opening}
 use Rattle.job_calls.proofs.run.run_job.Goals as goal
 
@@ -13,14 +13,11 @@ replay-replayed-requires-clause-unbroken g c =
     subst (λ (names : List (ArrayVec ℕ)). All (λ (name : ArrayVec ℕ). IsUnbroken name.items) names) (sym c.deref.ensures.value)
     (λ k d within. name-unbroken (get_or c.args.job.names.items k d).items (c.requires.ready.names k d within))
 
--- no more commits than begins
 pub filled-requires-clause-room : goal.filled-requires-clause-room
 filled-requires-clause-room g c =
-    let new = c.replay-replayed.new.desk in
-    let told : length (order_told c.order.result.now) ≡ length (order_told new.order.items) = ap length c.order.ensures in
-    let few : vec_len new.order ≤ new.begins = c.replay-replayed.ensures.answered.sound.room.commits in
-    let begins : new.begins ≡ c.in-Ok.session.begins = ap (λ (fixed : Fixed). fixed.begins) c.replay-replayed.ensures.answered.tells.fixed in
-    omega (arith, told, length-map {B = ℕ × ℕ} c.order.result.now (λ commit. (commit.activation, commit.steps)), length-map {B = ℕ × ℕ} new.order.items (λ commit. (commit.activation, commit.steps)), new.order.ok.0, few, begins, c.in-Ok.ensures.new.begins_are, c.requires.room)
+    let ran = c.replay-replayed in
+    let few : length c.order.result.now ≤ c.in-Ok.session.begins = few-told c.order.result.now ran.new.desk c.in-Ok.session c.order.ensures ran.ensures.answered.sound.room.commits ran.ensures.answered.tells.fixed in
+    omega (arith, few, c.in-Ok.ensures.new.begins_are, c.requires.room)
 
 -- what was replayed, in the job's words
 replays : {W : Type 0} (G : Ghosts W) (names : List (List ℕ)) (events : List Event) (job : Job) (desk new : Session) (start after : W) (result : Replayed)
