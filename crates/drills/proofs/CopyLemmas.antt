@@ -5,16 +5,14 @@ use Rattle.job_text.specs.Ready.{IsName, IsReady, IsEventAmong}
 -- bytes that are copies of others are these
 same_bytes : (xs ys : List ℕ) → AllZip (λ x y. y ≡ x) xs ys → ys ≡ xs
 same_bytes [] [] are = refl
-same_bytes [] (y ∷ ys) are = absurd are
-same_bytes (x ∷ xs) [] are = absurd are
 same_bytes (x ∷ xs) (y ∷ ys) are = let rest = same_bytes xs ys are.1 in let first = are.0 in cc
+same_bytes _ _ are = absurd are
 
 -- and so of names
 pub same_names : (xs ys : List (ArrayVec ℕ)) → AllZip (λ (one two : ArrayVec ℕ). AllZip (λ x y. y ≡ x) one.items two.items) xs ys → map (λ (name : ArrayVec ℕ). name.items) ys ≡ map (λ (name : ArrayVec ℕ). name.items) xs
 same_names [] [] are = refl
-same_names [] (y ∷ ys) are = absurd are
-same_names (x ∷ xs) [] are = absurd are
 same_names (x ∷ xs) (y ∷ ys) are = let rest = same_names xs ys are.1 in let first = same_bytes x.items y.items are.0 in cc
+same_names _ _ are = absurd are
 
 are_names : (xs ys : List (ArrayVec ℕ)) → map (λ (name : ArrayVec ℕ). name.items) ys ≡ map (λ (name : ArrayVec ℕ). name.items) xs → All (λ (name : ArrayVec ℕ). IsName name.items) xs → All (λ (name : ArrayVec ℕ). IsName name.items) ys
 are_names xs ys same all k d within =

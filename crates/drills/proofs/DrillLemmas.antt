@@ -58,8 +58,7 @@ module _ (job : Job) (write : ℕ) (outcome : List ℕ) (stop : Stop) (is : IsTr
 
 -- lines of one write more
 pub stop_lines-append : (write : ℕ) (pairs : List Pair) (pair : Pair) → stop_lines write (pairs ++ pair ∷ []) ≡ stop_lines write pairs ++ pair_lines (write + length pairs) pair
-stop_lines-append write [] pair =
-    append-nil (pair_lines write pair) ∙ ap (λ (n : ℕ). pair_lines n pair) (let same : write ≡ write + 0 = omega arith in same)
+stop_lines-append write [] pair = append-nil (pair_lines write pair) ∙ ap (λ (n : ℕ). pair_lines n pair) (let same : write ≡ write + 0 = omega arith in same)
 stop_lines-append write (first ∷ pairs) pair =
     ap (λ (behind : List ℕ). pair_lines write first ++ behind) (stop_lines-append (write + 1) pairs pair ∙ ap (λ (n : ℕ). stop_lines (write + 1) pairs ++ pair_lines n pair) (let same : write + 1 + length pairs ≡ write + length (first ∷ pairs) = omega arith in same))
     ∙ sym (append_assoc (pair_lines write first) (stop_lines (write + 1) pairs) (pair_lines (write + length (first ∷ pairs)) pair))
@@ -131,15 +130,11 @@ module _ {W : Type 0} (G : Ghosts W) (job : Job) (before after : W) where
   pub drill-rose : (status : Status) → DrilledTo G job before after status → status ≡ Status.PutFault → Rose (G.put_faults before) (G.put_faults after)
   drill-rose status.PutFault (inl first) is = first.puts.only.cause.failed
   drill-rose status.PutFault (inr whole) is = whole.puts.only.cause.failed
-  drill-rose status.Done did is = absurd (cc)
-  drill-rose status.NoMemory did is = absurd (cc)
-  drill-rose _ did is = absurd did
+  drill-rose _ did is = absurd (cc)
 
   pub drill-same : (status : Status) → DrilledTo G job before after status → status ≡ Status.Done → G.put_faults after ≡ G.put_faults before
   drill-same status.Done did is = did.puts.only.cause.done
-  drill-same status.PutFault did is = absurd (cc)
-  drill-same status.NoMemory did is = absurd (cc)
-  drill-same _ did is = absurd did
+  drill-same _ did is = absurd (cc)
 
   -- of a text that means the job
   pub drilled-text : (given : Given) (text : List ℕ) (status : Status) → IsWhole given.left given.left_now text → job_of text ≡ Ok (content_of job) → DrilledTo G job before after status → DrilledBy G given before after status

@@ -41,10 +41,7 @@ fine-taken [] none = refl
 fine-taken ((event, Fine) ∷ taken) none =
     let more = one-more (event, Fine) taken in
     ap (λ (behind : List (Event × Word)). (event, Fine) ∷ behind) (fine-taken taken (omega (arith, none, more)))
-fine-taken ((event, ReadFailed page) ∷ taken) none = let more = one-more (event, ReadFailed page) taken in absurd (omega (arith, none, more))
-fine-taken ((event, Unwritten) ∷ taken) none = let more = one-more (event, Unwritten) taken in absurd (omega (arith, none, more))
-fine-taken ((event, Doubt) ∷ taken) none = let more = one-more (event, Doubt) taken in absurd (omega (arith, none, more))
-fine-taken ((event, Failed) ∷ taken) none = let more = one-more (event, Failed) taken in absurd (omega (arith, none, more))
+fine-taken ((event, word) ∷ taken) none = let more = one-more (event, word) taken in absurd (omega (arith, none, more))
 
 -- commits that run one after another have a line each
 lines-each : (activations : List Activation) (number : ℕ) (commits : List (ℕ × ℕ)) (store left : FlatStore) → serial activations commits store ≡ Some left → length (serial_lines activations number commits store) ≡ length commits
@@ -203,8 +200,7 @@ left-same G copy job number store before after order status frames names program
           let (ran, all) = left.ran image seen holds nothing prints unfailed in
           (subst (λ (parts : Parts). IsStoppedRun parts.names parts.programs parts.events number (opened parts.frames 16 (most_lines (header_of (take 128 (held_of G before)))) store) order (commits_seen seen)) same ran, all);
       writes = left.writes;
-      fine = λ done calm.
-          subst (λ (parts : Parts). order ≡ (run parts.programs (all_fine parts.events) (opened parts.frames 16 (most_lines (header_of (take 128 (held_of G before)))) store)).order) same (left.fine done calm);
+      fine = λ done calm. subst (λ (parts : Parts). order ≡ (run parts.programs (all_fine parts.events) (opened parts.frames 16 (most_lines (header_of (take 128 (held_of G before)))) store)).order) same (left.fine done calm);
     }
 
 -- what a stop is, by what was left and what is told of it
