@@ -8,7 +8,7 @@ use Rattle.flat_machine.specs.declared.machine.Plain.{Plain}
 use Rattle.flat_machine.specs.Serial.{Activation, committing, serial}
 use Rattle.desk.specs.Desk.{Desk, opened}
 use Rattle.desk.specs.Commits.{IsSerial, begun, is_commit, line_before, serial_lines}
-use Rattle.desk.specs.Instruction.{Word, Fine, ReadFailed, Unwritten, Doubt, Failed}
+use Rattle.desk.specs.Instruction.{Word, Fine}
 use Rattle.desk.specs.Kept.{WritesMore}
 use Rattle.desk.specs.Lines.{Line, Open, line_text}
 use Rattle.desk.specs.Report.{closing_lines, event_lines, report}
@@ -275,8 +275,7 @@ module _ (job : Job) (held : List ℕ) (number : ℕ) (store : FlatStore) (write
       | inr un ↦
           let same : length order ≡ length (fine_order job held store) = ap (λ (these : List (ℕ × ℕ)). length these) (left.fine (came-done un) (told.unreached un).0) in
           let some = left.writes (came-done un) in
-          let few = few-writes un in
-          absurd (omega (arith, same, some, few, due))
+          let few = few-writes un in absurd (omega (arith, same, some, few, due))
     ]
 
 -- a disk that is as it was made has the one image that it was made with

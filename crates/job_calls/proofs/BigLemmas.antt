@@ -118,8 +118,7 @@ loaded_past G transfers c session _ past ran times = absurd past
 times_since : {W T : Type 0} (G : Ghosts W) (before start between after : W) (result : Result T Failed) → OnlyAsks G before start → CallsDisk G start between → PutsTimes G 1 between after result → PutsTimes G 1 before after result
 times_since G before start between after (Ok value) asks calls times = λ told.
     let there : IsSome (G.printed between) = subst (λ (those : Option (List ℕ)). IsSome those) (sym (calls.quiet.same ∙ asks.calls.quiet.same)) told in
-    let more = times there in
-    omega (arith, more, calls.puts, asks.calls.puts)
+    let more = times there in omega (arith, more, calls.puts, asks.calls.puts)
 times_since G before start between after (Err failed) asks calls times = tt
 
 -- what a load did, by how its run ended

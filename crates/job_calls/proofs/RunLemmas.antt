@@ -81,8 +81,7 @@ module _ {W : Type 0} (G : Ghosts W) (fewer_later : FewerLater G) (printed_now :
   -- the opening left what the start did
   opening-left : Leaves G (IsOfStart G before) before start
   opening-left image seen left =
-      let earlier = asks.crash standing.told image seen left in
-      (earlier, printed_now before image seen earlier)
+      let earlier = asks.crash standing.told image seen left in (earlier, printed_now before image seen earlier)
 
   -- what a crash left of the opening and of a run from it, without a word on the screen
   pub crash-any : (order : List (ℕ × ℕ)) (taken : List (Event × Word)) (rest : List Event) → IsRunOf job.programs.items job.events.items begins_with taken rest → order ≡ (run job.programs.items taken begins_with).order
