@@ -30,8 +30,7 @@ begins _ words says = (says.store ∷ says.numbers, says.are)
 one_word : (one two : Command) (words : List (List ℕ)) → Says one words → Says two words → word_of one ≡ word_of two
 one_word one two words first second =
     let (rest, here) = begins one words first in
-    let (other, there) = begins two words second in
-    cc
+    let (other, there) = begins two words second in cc
 
 -- the first three bytes of a word, as a number
 abbrev mark : List ℕ → ℕ
@@ -130,8 +129,7 @@ module _ {W : Type 0} (G : Ghosts W) (left : Option (List ℕ)) (outside : W) wh
     ship_ends from (status.NotKept base number) can did of disk put =
         let why = did.by_status.1 can.told in
         let keeps = can.keeps why.store why.shows in
-        let all = why.behind_all in
-        absurd (omega (arith, keeps, all))
+        let all = why.behind_all in absurd (omega (arith, keeps, all))
     ship_ends from _ can did of disk put = absurd of
 
     module _ (left_now : Option (List ℕ)) (faults faults_now : ℕ) (can : CanFollow G left outside) (calm : Rose faults faults_now → ⊥) where
@@ -161,8 +159,7 @@ module _ {W : Type 0} (G : Ghosts W) (left : Option (List ℕ)) (outside : W) wh
           absurd (⊎_elim (λ other. other.2 alike) (λ long. none_long (most_lines why.store.header) long.3.0 (due held (number_of why.store)) few long.3.2) why.due_on)
       on_store held is means (status.NotKept first last) did of disk put =
           let why = did can.told in
-          let (alike, among, few) = can.follows held is means why.store why.shows in
-          absurd (why.due_on.3 among)
+          let (alike, among, few) = can.follows held is means why.store why.shows in absurd (why.due_on.3 among)
       on_store held is means _ did of disk put = absurd did
 
       no_text : (now : Status) → IsNoText (record { left = left; left_now = left_now; faults = faults; faults_now = faults_now }) now → (now ≡ Status.Done) ⊎ (now ≡ Status.NoMemory)

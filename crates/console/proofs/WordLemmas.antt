@@ -1,5 +1,5 @@
 -- The words of a command line.
-use Rattle.console.proofs.Common.{FindsOne, IsCommandAlone, IsCommandOn, IsNumberedForm, Global, ParsesUnsigned, IsNumeral, digits_value, without_leading_plus, nat_tests, take_all, length-map, map-append, pow_pos, PageSize, Two, Four, AreFlags, Header, Command, AreNumbers, AreWithin, IsForm, IsLong, IsNoForm, IsOnStore, NamesStore, SaysNumber, ends_marked, marked_of, new_word, number_of, number_said, numbers_of, plain, spread, word_of, ◌≡◌, ◌≢◌, ℕ, zero, suc, ◌+◌, ◌-◌, ◌*◌, ◌/◌, ◌%◌, ◌^◌, ◌<◌, ◌≤◌, Bool, true, false, List, [], ◌∷◌, length, get_or, map, take, take-suc, drop, refl, sym, ◌∙◌, ap, subst, arith, Option, Some, None, Result, Ok, Err, MatchResult, MatchOption, String, string_bytes, slice_index, ◌==◌, ◌++◌, option_map, codes}
+use Rattle.console.proofs.Common.{FindsOne, IsCommandAlone, IsCommandOn, IsNumberedForm, Global, ParsesUnsigned, IsNumeral, digits_value, without_leading_plus, nat_tests, take_all, length-map, map-append, pow_pos, PageSize, Two, Four, AreFlags, Header, Command, AreNumbers, AreWithin, IsForm, IsLong, IsNoForm, IsOnStore, NamesStore, SaysNumber, ends_marked, marked_of, new_word, number_of, number_said, numbers_of, plain, spread, word_of, ◌≡◌, ◌≢◌, ℕ, zero, suc, ◌+◌, ◌-◌, ◌*◌, ◌/◌, ◌%◌, ◌^◌, ◌<◌, ◌≤◌, Bool, true, false, List, [], ◌∷◌, length, get_or, map, take, take-suc, drop, refl, sym, ◌∙◌, ap, subst, arith, Option, Some, None, Result, Ok, Err, MatchResult, MatchOption, String, string_bytes, slice_index, ◌==◌, ◌++◌, option_map, codes, OnOk, is_err}
 use Rattle.std.specs.Result.{OkIff}
 use Rattle.std.proofs.lemmas.Bool.{le-leb}
 use Rattle.asm_parse.specs.Number.{number_in}
@@ -125,6 +125,11 @@ alone (first ∷ []) word bytes (Some command.Drill) some one is same given = le
 alone (first ∷ []) word bytes (Some command.Audit) some one is same given = let said = given.1 in record { says = cc; within = tt }
 alone (first ∷ []) word bytes (Some _) some one is same given = absurd given.0
 alone _ word bytes result some one is same given = absurd (omega arith)
+
+-- what follows where an answer is no error
+pub went : {T E P : Type 0} (result : Result T E) → is_err result ≡ false → OnOk result P → P
+went (Ok value) is given = given
+went (Err fault) is given = cc
 
 -- a word that isn't empty
 pub not_empty : (bytes : List ℕ) (empty : Bool) → empty ≡ (length bytes == 0) → empty ≡ false → bytes ≢ []

@@ -1,4 +1,4 @@
-use Rattle.console.proofs.Lemmas.{◌≡◌, ℕ, suc, ◌+◌, ◌≤◌, ◌<◌, ◌^◌, ◌-◌, ◌/◌, ◌++◌, Bool, true, false, List, [], ◌∷◌, length, take, drop, slice_index_or, arith, sym, ◌∙◌, ap, All, Option, Some, None, MatchOption, Result, Ok, Err, OnOk, is_err, length-append, pow_below, IsInRange, spread, behind_first}
+use Rattle.console.proofs.Lemmas.{went, ◌≡◌, ℕ, suc, ◌+◌, ◌≤◌, ◌<◌, ◌^◌, ◌-◌, ◌/◌, ◌++◌, Bool, true, false, List, [], ◌∷◌, length, take, drop, slice_index_or, arith, sym, ◌∙◌, ap, All, Option, Some, None, MatchOption, length-append, pow_below, IsInRange, spread, behind_first}
 use Rattle.std.specs.Int.{from_bool}
 use Rattle.console.proofs.words.+add_segments.Goals as goal
 
@@ -16,10 +16,6 @@ none_is B (Some value) is none = cc
 -- so few segments have flags of so few bits
 few_flags : (others pushed count total : ℕ) → 1 ≤ pushed → total ≡ pushed + count → total ≤ 15 → others < 2 ^ count → others < 2 ^ 15
 few_flags others pushed count total some long few low = let bound : 2 ^ count < 2 ^ 15 = pow_below count 15 (omega (arith, some, long, few)) in omega (arith, bound, low)
-
-went : {T E P : Type 0} (result : Result T E) → is_err result ≡ false → OnOk result P → P
-went (Ok value) is given = given
-went (Err fault) is given = cc
 
 one_bit : (flag : Bool) → from_bool flag ≤ 1
 one_bit true = omega arith

@@ -1,4 +1,4 @@
-use Rattle.console.proofs.Lemmas.{◌≡◌, ℕ, ◌+◌, ◌++◌, Bool, true, false, List, [], ◌∷◌, length, map, take, ap, subst, arith, ◌∙◌, sym, Result, Ok, Err, OnOk, OnErr, is_err, string_bytes, length-map, length-take, AreNumbers, marked_of, as_many, no_number, numbers_more}
+use Rattle.console.proofs.Lemmas.{went, ◌≡◌, ℕ, ◌+◌, ◌++◌, Bool, true, List, [], ◌∷◌, length, map, take, ap, subst, arith, ◌∙◌, sym, Result, Ok, Err, OnErr, is_err, string_bytes, length-map, length-take, AreNumbers, marked_of, as_many, no_number, numbers_more}
 use Rattle.console.proofs.words.numbers_of.Goals as goal
 
 pub returns-in-None : goal.returns-in-None
@@ -7,10 +7,6 @@ returns-in-None c = λ numbers few are. no_number c.args.words.now c.loop-word.w
 failed : {T E P : Type 0} (result : Result T E) → is_err result ≡ true → OnErr result P → P
 failed (Ok value) is given = cc
 failed (Err fault) is given = given
-
-went : {T E P : Type 0} (result : Result T E) → is_err result ≡ false → OnOk result P → P
-went (Ok value) is given = given
-went (Err fault) is given = cc
 
 pub returns-then-is_err : goal.returns-then-is_err
 returns-then-is_err c = λ numbers few are.
