@@ -1,9 +1,10 @@
 -- From what the console did on an outside to what it did on the file and the screen behind it.
-use Rattle.file_runs.proofs.Common.{◌≡◌, ◌⊎◌, inl, inr, ⊎_elim, zero, ℕ, ◌+◌, ◌≤◌, List, [], ◌∷◌, ◌++◌, append_assoc, Torn, written, length, length-append, take, drop, refl, sym, ◌∙◌, ap, subst, arith, suc, Option, Result, Some, IsSome, unwrap_or, Leaves, AsksAndPuts, OnlyAsks, None, Ghosts, All, cond, count_by, false, IsSure, FlatStore, Stands, stands, begun, IsSerial, Given, call, IsFaultAt, TellsStore, Status, Session, report, event_lines, Desk, IsRunOf, run, Line, Failed, held_of, Happened, RanJob, Refused, job_desk, names_of, Deed, Wrote, Tore, Synced, Unsynced, images_after, images_at, images_by, is_write, bytes_of, printed_of, marks_of, AreBehind, Hands, IsBehind, IsQuiet, IsSeenAt, KeepsFile, LeavesAlways, LeavesAt, LeavesLast, OnlyAsked, RanOnFile, RanOnScreen, RunsFrom, RunsOnFile, begun_by}
+use Rattle.file_runs.proofs.Common.{◌≡◌, inl, inr, ⊎_elim, ℕ, ◌+◌, ◌≤◌, List, [], ◌∷◌, ◌++◌, append_assoc, Torn, written, length, length-append, take, drop, refl, sym, ◌∙◌, ap, subst, arith, suc, Option, Result, Some, IsSome, unwrap_or, Leaves, AsksAndPuts, OnlyAsks, None, Ghosts, All, cond, count_by, false, IsSure, FlatStore, Stands, stands, begun, IsSerial, Given, call, IsFaultAt, TellsStore, Status, Session, report, event_lines, Desk, IsRunOf, run, Line, Failed, held_of, Happened, RanJob, Refused, job_desk, names_of, Deed, Wrote, Tore, Synced, Unsynced, images_after, images_at, images_by, is_write, bytes_of, printed_of, marks_of, AreBehind, Hands, IsBehind, IsQuiet, IsSeenAt, KeepsFile, LeavesAlways, LeavesAt, LeavesLast, OnlyAsked, RanOnFile, RanOnScreen, RunsFrom, RunsOnFile, begun_by}
 use Rattle.std.proofs.lemmas.List.{append_cancel_left, nil_from_length, take_all}
 use Rattle.std.proofs.lemmas.List.Elements.{All-nil, All-cons}
 use Rattle.outside.proofs.Torn.{torn_by_written, untouched}
 use Rattle.std.proofs.lemmas.List.Sums.{sum_by-cons}
+use Rattle.std.proofs.lemmas.Bool.{cases_lt}
 use Rattle.std.proofs.lemmas.Bool.Decides.{nat_tests}
 use Rattle.outside.specs.Clock.{shown_by, start_of}
 use Rattle.outside.specs.Moments.{Moment}
@@ -29,12 +30,6 @@ pub marks_counted : (before : ℕ) (puts : List Deed) → length (marks_of befor
 marks_counted before [] = refl
 marks_counted before (put ∷ puts) = ap suc (marks_counted (before + length (bytes_of put)) puts)
 
--- a number is at most another, or more
-at_or_after : (a b : ℕ) → (a ≤ b) ⊎ (b + 1 ≤ a)
-at_or_after zero b = inl (omega arith)
-at_or_after (suc a) zero = inr (omega arith)
-at_or_after (suc a) (suc b) = ⊎_elim (λ le. inl (omega (arith, le))) (λ more. inr (omega (arith, more))) (at_or_after a b)
-
 -- a failed write of some bytes may leave two images
 no_bytes : (first held : List ℕ) (images : List ℕ → Type 0) (at : ℕ) (bytes : List ℕ) → images held → ((image : List ℕ) → images_by (Tore at bytes) held images image → image ≡ first) → bytes ≡ []
 no_bytes first held images at [] now kept = refl
@@ -42,6 +37,11 @@ no_bytes first held images at (b ∷ bs) now kept =
     let rest = drop (at + length (b ∷ bs)) held in
     let one : written held at (b ∷ bs) ≡ first = kept (written held at (b ∷ bs)) (inl refl) in
     ⊎_elim
+    (λ beyond.
+    let other : held ≡ first = kept held (inr (held, now, untouched at (length (b ∷ bs)) held)) in
+    let longer : length (written held at (b ∷ bs)) ≡ length held = ap (λ (these : List ℕ). length these) (one ∙ sym other) in
+    let all : length (take at held) ≡ length held = ap (λ (these : List ℕ). length these) (take_all at held (omega (arith, beyond))) in
+    absurd (omega (arith, longer, all, length-append (take at held ++ (b ∷ bs)) rest, length-append (take at held) (b ∷ bs))))
     (λ within.
     let torn : Torn at (length (b ∷ bs)) held (written held at (suc b ∷ bs)) = torn_by_written held at (suc b ∷ bs) within (length (b ∷ bs)) (omega arith) in
     let other : written held at (suc b ∷ bs) ≡ first = kept (written held at (suc b ∷ bs)) (inr (held, now, torn)) in
@@ -49,12 +49,7 @@ no_bytes first held images at (b ∷ bs) now kept =
     let same : b ∷ (bs ++ rest) ≡ suc b ∷ (bs ++ rest) = append_cancel_left (take at held) (b ∷ (bs ++ rest)) (suc b ∷ (bs ++ rest)) both in
     let heads : b ≡ suc b = cc in
     absurd (omega (arith, heads)))
-    (λ beyond.
-    let other : held ≡ first = kept held (inr (held, now, untouched at (length (b ∷ bs)) held)) in
-    let longer : length (written held at (b ∷ bs)) ≡ length held = ap (λ (these : List ℕ). length these) (one ∙ sym other) in
-    let all : length (take at held) ≡ length held = ap (λ (these : List ℕ). length these) (take_all at held (omega (arith, beyond))) in
-    absurd (omega (arith, longer, all, length-append (take at held ++ (b ∷ bs)) rest, length-append (take at held) (b ∷ bs))))
-    (at_or_after at (length held))
+    (cases_lt (length held) at)
 
 -- so where no write succeeded and one image alone may be left, the deeds change nothing
 quiet_by : (first held : List ℕ) (images : List ℕ → Type 0) (deeds : List Deed) → images held → count_by is_write deeds ≡ 0
@@ -89,8 +84,7 @@ later_more before (put ∷ puts) count at few =
     let all = length-append (bytes_of put) (printed_of puts) in
     let enough : before + length (bytes_of put) + length (printed_of puts) ≤ count = omega (arith, few, all) in
     let rest = later_more (before + length (bytes_of put)) puts count at enough in
-    let least = from_first (before + length (bytes_of put)) puts count (at + 1) enough in
-    grind (arith, nat_tests)
+    let least = from_first (before + length (bytes_of put)) puts count (at + 1) enough in grind (arith, nat_tests)
 
 -- so at each number of deeds something may have been seen
 seen_at : (puts : List Deed) (done : ℕ) → (seen : List ℕ) × IsSeenAt puts done seen
@@ -180,8 +174,7 @@ module _ {W : Type 0} (G : Ghosts W) (before after : W) (first : List ℕ) (deed
 
   pub leaves_always : (P : List ℕ → Type 0) → Leaves G (λ image seen. P image) before after → LeavesAlways first deeds P
   leaves_always P leaves done image within is_image =
-      let its = seen_at puts done in
-      leaves image its.0 (since_start done image its.0 within is_image its.1)
+      let its = seen_at puts done in leaves image its.0 (since_start done image its.0 within is_image its.1)
 
   -- where as many writes succeeded as before, none did
   unwritten : G.writes after ≡ G.writes before → count_by is_write deeds ≡ 0
@@ -209,8 +202,7 @@ module _ {W : Type 0} (G : Ghosts W) (before after : W) (first : List ℕ) (deed
   -- where the bytes held are sure, all deeds leave them alone
   pub sure_now : IsSure G after → LeavesLast first deeds (λ left. left ≡ held_of G after)
   sure_now sure left is_left =
-      let its = behind.now left is_left in
-      told_is (G.held after) left sure.told (sure.durable left its.0 its.1)
+      let its = behind.now left is_left in told_is (G.held after) left sure.told (sure.durable left its.0 its.1)
 
   pub sure_last : (image : List ℕ) → G.held after ≡ Some image → IsSure G after → LeavesLast first deeds (λ left. left ≡ image)
   sure_last image held sure left is_left =
