@@ -1,8 +1,9 @@
 -- The bytes of an instruction.
-use Rattle.std.specs.Prelude.{◌≡◌, ℕ, ℤ, pos, negsuc, suc, ◌+◌, ◌-◌, ◌*◌, ◌/◌, ◌%◌, ◌^◌, List, [], ◌∷◌, take}
+use Rattle.std.specs.Prelude.{◌≡◌, ℕ, ℤ, pos, negsuc, suc, ◌+◌, ◌-◌, ◌*◌, ◌/◌, ◌%◌, ◌^◌, List, [], ◌∷◌, take, Option, IfSome, IfNone}
 use Rattle.std.specs.Option.{option_map_or}
 use Rattle.romp_table.specs.Rows.{row_of}
-use Rattle.romp_table.specs.Legal.{op_of}
+use Rattle.romp_table.specs.Decode.{decoded}
+use Rattle.romp_table.specs.Legal.{HasWidths, IsLegal, op_of}
 use Rattle.romp_table.specs.declared.inst.Op.{Op}
 use Rattle.romp_table.specs.declared.inst.Inst.{Inst}
 use Rattle.romp_table.specs.declared.inst.Code.{Code}
@@ -55,3 +56,11 @@ encoded inst = record { bytes = bytes_of (first_of inst) (second_of inst); len =
 -- two halfwords begin with the bytes of an instruction; the second counts where it has four bytes alone
 abbrev pub BeginWith : ℕ → ℕ → Code → Type 0
 BeginWith first second code = take code.len (bytes_of first second) ≡ take code.len code.bytes
+
+-- What two halfwords are: the one legal instruction whose bytes they begin with, and none where there is no such.
+pub record IsDecoded (first second : ℕ) (result : Option Inst) : Type 0 where
+  pub value : result ≡ decoded first second
+  pub legal : IfSome result IsLegal
+  pub widths : IfSome result HasWidths
+  pub back : IfSome result (λ inst. BeginWith first second (encoded inst))
+  pub none : IfNone result ((inst : Inst) → IsLegal inst → ¬ (BeginWith first second (encoded inst)))
