@@ -38,6 +38,10 @@ ArePlaced classes = (class : ℕ) → All (λ pair. class_of (page_of pair) ≡ 
 abbrev pub remembered : List (List Pair) → Key → Option ℕ
 remembered classes wanted = option_map (λ pair. pair.frame) (find (is_pair_of wanted) (pairs_in classes (class_of wanted)))
 
+-- the buffer has no pair of this page
+abbrev pub LacksPair : List (List Pair) → Key → Type 0
+LacksPair classes wanted = find (is_pair_of wanted) (pairs_in classes (class_of wanted)) ≡ None
+
 -- a class with a new pair, last, after the first has gone where there were two
 abbrev pub with_newest : List Pair → Pair → List Pair
 with_newest pairs pair = (if length pairs == 2 then drop 1 pairs else pairs) ++ pair ∷ []
@@ -63,3 +67,10 @@ forgotten classes frame = map (filter (λ pair. not (pair.frame == frame))) clas
 -- each pair is in the table: this finds the page of the pair in its frame
 abbrev pub IsOfTable : List (List Pair) → List (Option Key) → Type 0
 IsOfTable classes keys = All (All (λ pair. look_up keys (page_of pair) ≡ Some pair.frame)) classes
+
+-- What a find of a page answers, and the buffer after it; where each pair is in the table, the answer is the table's, and each pair is in it again.
+pub record LooksUp (old : List (List Pair)) (keys : List (Option Key)) (wanted : Key) (new : List (List Pair)) (result : Option ℕ) : Type 0 where
+  pub answer : result ≡ found old (look_up keys wanted) wanted
+  pub after : new ≡ after_found old (look_up keys wanted) wanted
+  pub same : IsOfTable old keys → result ≡ look_up keys wanted
+  pub kept : IsOfTable old keys → IsOfTable new keys

@@ -26,9 +26,13 @@ chain_end next zero at = at
 chain_end next (suc count) None = None
 chain_end next (suc count) (Some frame) = chain_end next count (following next frame)
 
+-- the frames along a chain from a place on, to its end
+abbrev pub whole_chain : List (Option ℕ) → Option ℕ → List ℕ
+whole_chain next at = chain_from next (length next) at
+
 -- the chain of a hash, from its anchor
 abbrev pub chain_of : (anchors next : List (Option ℕ)) → (hash : ℕ) → List ℕ
-chain_of anchors next hash = chain_from next (length next) (following anchors hash)
+chain_of anchors next hash = whole_chain next (following anchors hash)
 
 -- the number in front of another in a list
 abbrev pub before_in : List ℕ → ℕ → Option ℕ

@@ -3,7 +3,7 @@ ghost use Rattle.std.specs.Prelude.{◌≡◌, ◌==◌, ◌<◌, find, length, 
 ghost use Rattle.std.specs.Int.{IsPowerOfTwo};
 ghost use Rattle.lines.specs.Sets.{distinct};
 ghost use Rattle.page_table.specs.Placed.{key_in, holds};
-ghost use Rattle.page_table.specs.Chains.{hash_of, following, chain_from, chain_end, before_in};
+ghost use Rattle.page_table.specs.Chains.{hash_of, following, chain_end, before_in, whole_chain};
 
 use super::key::Key;
 
@@ -52,7 +52,7 @@ pub fn find_along(
     first: Option<u16>,
     key: Key,
 ) -> Option<u16>
-    ensures { result ≡ find (λ frame. holds key (key_in keys.now frame)) (chain_from next.now (length next.now) first) }
+    ensures { result ≡ find (λ frame. holds key (key_in keys.now frame)) (whole_chain next.now first) }
 {
     let mut place = first;
     for _ in 0..next.len() {
@@ -70,8 +70,8 @@ pub fn find_along(
 #[inline]
 pub fn before(next: &[Option<u16>], first: Option<u16>, frame: u16) -> Option<u16>
     requires ends { chain_end next.now (length next.now) first ≡ None }
-    requires apart { distinct (chain_from next.now (length next.now) first) ≡ chain_from next.now (length next.now) first }
-    ensures { result ≡ before_in (chain_from next.now (length next.now) first) frame }
+    requires apart { distinct (whole_chain next.now first) ≡ whole_chain next.now first }
+    ensures { result ≡ before_in (whole_chain next.now first) frame }
 {
     if first == Some(frame) {
         return None;

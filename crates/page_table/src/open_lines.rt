@@ -68,7 +68,7 @@ impl OpenLines {
     #[tactic(auto, unfolding(crate::specs::KnownLines::known))]
     #[inline]
     pub fn keep(&mut self, address: u32, line: OpenLine)
-        ensures { (block : ℕ) → known self.new block ≡ with_line (address / 128) line block (known self.old block) }
+        ensures { (at : ℕ) → known self.new at ≡ with_line (address / 128) line at (known self.old at) }
     {
         let place = place_of(address / 128);
         self.held[place] = true;

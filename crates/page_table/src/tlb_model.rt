@@ -2,7 +2,7 @@ ghost use Rattle.std.specs.Prelude.{◌≡◌, ℕ, ◌<◌, [], None, filter, f
 ghost use Rattle.page_table.specs.declared.key.Key.{Key};
 ghost use Rattle.page_table.specs.Placed.{look_up};
 ghost use Rattle.page_table.specs.Keys.{key_of, key_to};
-ghost use Rattle.page_table.specs.Buffer.{class_of, is_pair_of, pairs_in, found, after_found, forgotten, with_newest, AreApart, IsOfTable};
+ghost use Rattle.page_table.specs.Buffer.{is_pair_of, pairs_in, after_found, forgotten, with_newest, AreApart, IsOfTable, LacksPair, LooksUp};
 ghost use Rattle.page_table.specs.Ways.{ways_without, unless_of};
 
 use super::inverted_table::Table;
@@ -125,12 +125,7 @@ impl Tlb {
     /// buffer.
     #[inline(always)]
     pub fn find(&mut self, table: &Table, at: Virtual) -> Option<u16>
-        ensures answer { result ≡ found self.old (look_up table.now.keys (key_of at)) (key_of at) }
-        ensures after { self.new ≡ after_found self.old (look_up table.now.keys (key_of at)) (key_of at) }
-
-        // Where each pair is in the table, the answer is the table's, and each pair is in it again.
-        ensures same { IsOfTable self.old table.now.keys → result ≡ look_up table.now.keys (key_of at) }
-        ensures kept { IsOfTable self.old table.now.keys → IsOfTable self.new table.now.keys }
+        ensures { LooksUp self.old table.now.keys (key_of at) self.new result }
     {
         let place = (at.page % 16) as usize;
         match self.classes[place].find(at) {
@@ -142,11 +137,8 @@ impl Tlb {
     /// The same where the buffer has no pair of the page.
     #[inline(never)]
     fn find_anew(&mut self, table: &Table, segment: u16, page: u32) -> Option<u16>
-        requires { find (is_pair_of (key_to segment page)) (pairs_in self.old (class_of (key_to segment page))) ≡ None }
-        ensures answer { result ≡ found self.old (look_up table.now.keys (key_to segment page)) (key_to segment page) }
-        ensures after { self.new ≡ after_found self.old (look_up table.now.keys (key_to segment page)) (key_to segment page) }
-        ensures same { IsOfTable self.old table.now.keys → result ≡ look_up table.now.keys (key_to segment page) }
-        ensures kept { IsOfTable self.old table.now.keys → IsOfTable self.new table.now.keys }
+        requires { LacksPair self.old (key_to segment page) }
+        ensures { LooksUp self.old table.now.keys (key_to segment page) self.new result }
     {
         let at = Virtual {
             segment,
@@ -161,7 +153,7 @@ impl Tlb {
     /// The pair of a page of which the buffer has none comes in, as where the table answers with its frame.
     #[inline(always)]
     pub fn remember(&mut self, segment: u16, page: u32, frame: u16)
-        requires { find (is_pair_of (key_to segment page)) (pairs_in self.old (class_of (key_to segment page))) ≡ None }
+        requires { LacksPair self.old (key_to segment page) }
         ensures { self.new ≡ after_found self.old (Some frame) (key_to segment page) }
     {
         let place = (page % 16) as usize;
