@@ -12,6 +12,10 @@ pub record IsSure {W : Type 0} (G : Ghosts W) (outside : W) : Type 0 where
   pub told : IsSome (G.held outside)
   pub durable : IsDurable G.moment G.left_since G.held outside
 
+-- what was honest and told its bytes is sure
+abbrev pub MakesSure : {W : Type 0} → Ghosts W → W → W → Type 0
+MakesSure G old new = IsTrue (G.is_honest old) → IsSome (G.held old) → IsSure G new
+
 -- the bytes are held at the offset and a crash leaves them; one write more succeeded
 pub record IsWritten {W : Type 0} (G : Ghosts W) (at : ℕ) (bytes : List ℕ) (old new : W) : Type 0 where
   pub held : G.held new ≡ Some (written (held_of G old) at bytes)
