@@ -1,11 +1,16 @@
 -- What reading a header answers.
-use Rattle.std.specs.Prelude.{◌≡◌, ◌≢◌, IsSome, Result, OnOk, IfErr}
+use Rattle.std.specs.Prelude.{◌≡◌, ◌≢◌, ℕ, ◌-◌, List, ◌++◌, length, take, replicate, Result, OnOk, IfErr}
 use Rattle.outside.specs.declared.world.Outside.{Ghosts}
 use Rattle.outside.specs.Causes.{Rose}
-use Rattle.outside.specs.Runs.{held_of, OnlyAsks}
+use Rattle.outside.specs.Runs.{IfTold, OnlyAsks}
 use Rattle.store_format.specs.declared.read.HeaderFault as code
 use Rattle.store_format.specs.declared.read.HeaderFault.TheVariants as fault
 use Rattle.store_format.specs.Stands.{stands, NotAStore}
+
+-- the number of the bytes held, and the first 128 of them, with zeros where there are fewer
+pub record IsHead (held : List ℕ) (read : ℕ × List ℕ) : Type 0 where
+  pub number : read.0 ≡ length held
+  pub head : read.1 ≡ take 128 held ++ replicate (128 - length held) 0
 
 -- Calls that only ask, whose answer may name the disk's fault: none is counted where they succeed or answer another fault, and each fault has its cause.
 pub record AsksUnless {W T E : Type 0} (G : Ghosts W) (failed : E) (cause : E → Type 0) (old new : W) (result : Result T E) : Type 0 where
@@ -16,7 +21,7 @@ pub record AsksUnless {W T E : Type 0} (G : Ghosts W) (failed : E) (cause : E �
 
 -- a disk's fault is counted; any other is where the bytes that are told are no store
 abbrev pub IsHeaderFault : {W : Type 0} → Ghosts W → W → W → code.HeaderFault → Type 0
-IsHeaderFault G old new (fault.NotAStore offset) = IsSome (G.held old) → stands (held_of G old) ≡ NotAStore offset
+IsHeaderFault G old new (fault.NotAStore offset) = IfTold G old (λ held. stands held ≡ NotAStore offset)
 IsHeaderFault G old new fault.DiskFault = Rose (G.disk_faults old) (G.disk_faults new)
 
 -- a reading of the header only asks the disk

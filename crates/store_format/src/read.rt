@@ -1,8 +1,7 @@
 // Reading the header of a store.
-ghost use Rattle.std.specs.Prelude.{◌≡◌, ℕ, ◌+◌, ◌-◌, ◌*◌, ◌^◌, ◌≤◌, List, [], ◌∷◌, ◌++◌, length, take, replicate, None, IfOk, IsSome};
-ghost use Rattle.outside.specs.Causes.{FailsOnlyCounted};
-ghost use Rattle.outside.specs.Runs.{OnlyAsks, held_of};
-ghost use Rattle.store_format.specs.Read.{AsksHeader};
+ghost use Rattle.std.specs.Prelude.{◌≡◌, ℕ, ◌+◌, ◌-◌, ◌*◌, ◌^◌, ◌≤◌, List, [], ◌∷◌, None};
+ghost use Rattle.outside.specs.Runs.{AsksFor, ReadsTold};
+ghost use Rattle.store_format.specs.Read.{AsksHeader, IsHead};
 ghost use Rattle.store_format.specs.Stands.{HasHeader};
 ghost use Rattle.store_format.specs.Header.{number_at, within, name_field, segments_at, segment_fields, zeros, spare_fields, page_of, fields, first_fault, header_of};
 
@@ -36,7 +35,7 @@ pub enum HeaderFault {
 /// (docs/FORMATS.md, "Store"). [`HeaderFault::DiskFault`] only where the disk's count of faults rose.
 pub fn read_header<W: Outside>(outside: &mut W) -> Result<Header, HeaderFault>
     ensures asks { AsksHeader W.Outside outside.old outside.new result }
-    ensures header { IfOk result (λ header. IsSome (W.held outside.old) → HasHeader (held_of W.Outside outside.old) header) }
+    ensures header { ReadsTold W.Outside outside.old HasHeader result }
 {
     let (length, head) = match read_head(outside) {
         Err(Failed) => return Err(HeaderFault::DiskFault),
@@ -56,10 +55,7 @@ pub fn read_header<W: Outside>(outside: &mut W) -> Result<Header, HeaderFault>
 
 /// The number of bytes held, and the first 128 of them, with zeros where there are fewer.
 fn read_head<W: Outside>(outside: &mut W) -> Result<(u64, [u8; HEADER_BYTES]), Failed>
-    ensures asks { OnlyAsks W.Outside outside.old outside.new }
-    ensures number { IfOk result (λ read. IsSome (W.held outside.old) → read.0 ≡ length (held_of W.Outside outside.old)) }
-    ensures head { IfOk result (λ read. IsSome (W.held outside.old) → read.1 ≡ take 128 (held_of W.Outside outside.old) ++ replicate (128 - length (held_of W.Outside outside.old)) 0) }
-    ensures cause { FailsOnlyCounted (W.disk_faults outside.old) (W.disk_faults outside.new) result }
+    ensures { AsksFor W.Outside IsHead outside.old outside.new result }
 {
     let mut head = [0; HEADER_BYTES];
     let length = outside.length()?;

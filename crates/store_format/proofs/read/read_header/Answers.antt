@@ -9,8 +9,8 @@ found : (g : Over) (c : goal.After-header_fault g) → IsSome (g.W.Outside.held 
 found g c told =
     let held = held_of g.W.Outside c.args.outside.now in
     sym (c.header_fault.ensures
-    ∙ ap (λ (n : ℕ). first_fault n (fields c.in-Ok.read.1)) (c.in-Ok.ensures.number told)
-    ∙ ap (λ (head : List ℕ). first_fault (length held) (fields head)) (c.in-Ok.ensures.head told)
+    ∙ ap (λ (n : ℕ). first_fault n (fields c.in-Ok.read.1)) (c.in-Ok.ensures.read told).number
+    ∙ ap (λ (head : List ℕ). first_fault (length held) (fields head)) (c.in-Ok.ensures.read told).head
     ∙ padded_fault held)
 
 none_is : (fault : Option ℕ) → ((offset : ℕ) → fault ≡ Some offset → ⊥) → fault ≡ None
@@ -18,7 +18,7 @@ none_is fault none = grind (arith, nat_tests)
 
 said : (g : Over) (c : goal.After-total-total g) → IsSome (g.W.Outside.held c.args.outside.now) → header_of (take 128 (held_of g.W.Outside c.args.outside.now)) ≡ c.header_in-header.result
 said g c told =
-    sym (padded_header (held_of g.W.Outside c.args.outside.now)) ∙ ap (λ (head : List ℕ). header_of head) (sym (c.in-Ok.ensures.head told)) ∙ c.header_in-header.ensures
+    sym (padded_header (held_of g.W.Outside c.args.outside.now)) ∙ ap (λ (head : List ℕ). header_of head) (sym (c.in-Ok.ensures.read told).head) ∙ c.header_in-header.ensures
 
 pub returns-in-Some-clause-asks : goal.returns-in-Some-clause-asks
 returns-in-Some-clause-asks g c = record {
@@ -39,7 +39,7 @@ returns-else-length-total-clause-asks g c = record {
   fault = λ told.
       let at = goal.at.returns-else-length-total-clause-asks g c in
       let held = held_of g.W.Outside c.args.outside.now in
-      let bytes = c.in-Ok.ensures.number told in
+      let bytes = (c.in-Ok.ensures.read told).number in
       cc (faulty_length held c.header_in-header.result (found g at.After-header_fault told ∙ none_is c.header_fault.result c.in_default.not-Some) (said g at.After-total-total told) (λ same. c.if-length-total.false (bytes ∙ same ∙ sym c.total-total.ensures.value)), bytes, c.total-total.ensures.value, c.min.ensures);
   calm = grind (arith, common_steps);
 }
@@ -50,5 +50,5 @@ returns-then-length-total-clause-header g c told =
     record {
       sound = found g at.After-header_fault told ∙ none_is c.header_fault.result c.in_default.not-Some;
       said = said g at.After-total-total told;
-      whole = sym (c.in-Ok.ensures.number told) ∙ c.if-length-total.true ∙ c.total-total.ensures.value;
+      whole = sym (c.in-Ok.ensures.read told).number ∙ c.if-length-total.true ∙ c.total-total.ensures.value;
     }
