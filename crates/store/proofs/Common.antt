@@ -23,9 +23,9 @@ pub use Rattle.store_format.specs.Stands.{Damaged, IsStore, Standing, Stands, ho
 unfoldable pub use Rattle.store_format.specs.Stands.{stands}
 pub use Rattle.store.specs.Held.{HasBody, IsSafe, IsShut, is_open, IsMoreBy, OnlyWrites, WritesOnce}
 pub use Rattle.store.specs.Inside.{IsWhole, begun_count, begun_lines, buffered, kept_of}
-pub use Rattle.store.specs.Kept.{KeptBank, SameShape, area_end, begun_of, end_of, line_bytes_of, needed_end, place_of, record_bytes_of, spoilt, with_line, with_record, AreNewest, AreWithin, IsNowhere, newest_place, noted, place_in, newest_over}
+pub use Rattle.store.specs.Kept.{KeptBank, SameShape, StaysWithin, area_end, begun_of, end_of, line_bytes_of, needed_end, place_of, record_bytes_of, spoilt, with_line, with_record, AreNewest, AreWithin, IsNowhere, newest_place, noted, place_in, newest_over}
 pub use Rattle.store.specs.Read.{AreRead, IsBank}
-pub use Rattle.store.specs.Records.{IsCounted, IsLine, IsLineOf, IsRecordAt, area_bytes, IsFound, ReadsLine, ReadsRecord}
+pub use Rattle.store.specs.Records.{IsCounted, IsCountedAt, IsLine, IsLineOf, IsRecordAt, area_bytes, IsFound, ReadsLine, ReadsRecord}
 pub use Rattle.store.specs.Tracks.{HoldsOneOf, IsAppended, IsEither, TracksBank, HoldsRecords}
 pub use Rattle.store.specs.Turned.{head_bytes, placed, turned}
 pub use Rattle.store.specs.declared.redo_journal.Bank.TheInside.{Inside}

@@ -1,5 +1,5 @@
 -- The records of a bank, each at its place.
-use Rattle.store.proofs.Common.{drop-drop, big_number, line_bytes, PageSize, entry_bytes, number_at, RecordLine, lines_from, lines_of, count_of, record_bytes, wrong_line, Area, Holds, HoldsFrom, gate_at, IsSound, follows, has_bank, KeptBank, place_of, area_bytes, IsRecordAt, IsCounted, IsLine, IsLineOf, Record, None, ◌≡◌, ℕ, zero, suc, ◌+◌, ◌*◌, ◌<◌, List, [], ◌∷◌, ◌++◌, length, take, drop, refl, sym, subst, ◌∙◌, ap, arith, Some, slice_get, nat_tests}
+use Rattle.store.proofs.Common.{drop-drop, big_number, line_bytes, PageSize, entry_bytes, number_at, RecordLine, lines_from, lines_of, count_of, record_bytes, wrong_line, Area, Holds, HoldsFrom, gate_at, IsSound, follows, has_bank, KeptBank, place_of, area_bytes, IsRecordAt, IsCounted, IsCountedAt, IsLine, IsLineOf, Record, None, ◌≡◌, ℕ, zero, suc, ◌+◌, ◌*◌, ◌<◌, List, [], ◌∷◌, ◌++◌, length, take, drop, refl, sym, subst, ◌∙◌, ap, arith, Some, slice_get, nat_tests}
 use Rattle.store.proofs.AppendLemmas.{length-lines_from}
 
 -- where a record with these lines stands, in an area with this end, of a store with so many lines
@@ -55,12 +55,11 @@ module _ (held : List ℕ) (bank : KeptBank) (place area : ℕ) (at : IsRecordAt
   number-there = sym (ap (λ (these : List ℕ). big_number 2 these) (drop-drop 1 (area + place) held)) ∙ there.count
 
   -- a head that was read counts its lines
-  pub counted : (found : Record) → (place + 11 + entry_bytes bank.page * number_at held (area + place + 1) 2 < bank.bank_bytes → found.count ≡ number_at held (area + place + 1) 2)
-      → (place + 11 + entry_bytes bank.page * number_at held (area + place + 1) 2 < bank.bank_bytes → found.next ≡ place + 11 + entry_bytes bank.page * found.count) → IsCounted bank.page place at.lines found
-  counted found read fits = grind (arith, nat_tests, there, number-there)
+  pub counted : (found : Record) → IsCountedAt bank.page area bank.bank_bytes place held found → IsCounted bank.page place at.lines found
+  counted found read = grind (arith, nat_tests, there, number-there)
 
   -- and a line that was read is the record's
-  pub lined : (index line : ℕ) (into : List ℕ) → index < length at.lines → IsLine bank.page (drop (area + place + 11 + entry_bytes bank.page * index) held) line into → IsLineOf at.lines index line into
+  pub lined : (index line : ℕ) (into : List ℕ) → index < length at.lines → IsLine bank.page (area + place + 11 + entry_bytes bank.page * index) into held line → IsLineOf at.lines index line into
   lined index line into below is =
       let bytes : drop (entry_bytes bank.page * index) (drop 11 (drop (area + place) held)) ≡ drop (area + place + 11 + entry_bytes bank.page * index) held =
       ap (λ (these : List ℕ). drop (entry_bytes bank.page * index) these) (drop-drop 11 (area + place) held) ∙ drop-drop (entry_bytes bank.page * index) (area + place + 11) held in

@@ -28,6 +28,10 @@ noted newest lines = fold (λ newest line. overlaid newest line.line (Some (line
 abbrev pub AreWithin : PageSize → ℕ → List (Option ℕ) → Type 0
 AreWithin page end newest = All (λ place. IfSome place (λ at. at + line_bytes page ≤ end)) newest
 
+-- those that lie in front of an end, or of a later one, stay so
+abbrev pub StaysWithin : PageSize → ℕ → (old new : List (Option ℕ)) → Type 0
+StaysWithin page upto old new = (end : ℕ) → upto ≤ end → AreWithin page end old → AreWithin page end new
+
 -- the page with so many bytes at the line's newest place over a part of it, where there is such a place
 abbrev pub newest_over : ℕ → List ℕ → Option ℕ → List ℕ → ℕ → List ℕ
 newest_over bytes held None page at = page
@@ -76,9 +80,12 @@ number_of bank = (bank.base + bank.count) % 2 ^ 64
 abbrev pub begun_of : KeptBank → List RecordLine
 begun_of bank = unwrap_or bank.begun []
 
--- where the begun record ends, with the gate behind it
+-- where a record with so many lines would end, and the begun record ends, with the gate behind it
+abbrev pub end_with : KeptBank → (lines : ℕ) → ℕ
+end_with bank lines = bank.gate + record_bytes_of bank lines + 1
+
 abbrev pub needed_end : KeptBank → ℕ
-needed_end bank = bank.gate + record_bytes_of bank (length (begun_of bank)) + 1
+needed_end bank = end_with bank (length (begun_of bank))
 
 -- the bank with one line more in its begun record
 abbrev pub with_line : KeptBank → ℕ → List ℕ → KeptBank

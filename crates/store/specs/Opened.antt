@@ -1,6 +1,6 @@
 -- What a bank is that was read from the disk.
-use Rattle.std.specs.Prelude.{◌≡◌, ◌↔◌, ◌<◌, ℕ, List, length, slice_get, Some, None, IsSome, Result, is_err}
-use Rattle.store.specs.Below.{AsksUnless, Bank, bank_held, bank_of, Faulty, Ghosts, Header, held_of, Holds, line_count, number_at, PageSize, RecordLine, Rose, Which}
+use Rattle.std.specs.Prelude.{◌≡◌, ◌↔◌, ◌<◌, ℕ, List, length, slice_get, Some, None, IsSome, Result, IfErr, is_err}
+use Rattle.store.specs.Below.{AsksUnless, Bank, bank_held, bank_of, Faulty, Ghosts, Header, held_of, Holds, IfTold, line_count, number_at, PageSize, RecordLine, Rose, Which}
 use Rattle.store.specs.declared.fault.OpenFault.{OpenFault}
 use Rattle.store.specs.declared.fault.OpenFault.TheVariants as opening
 use Rattle.store.specs.declared.fault.ReopenFault.{ReopenFault}
@@ -56,3 +56,7 @@ pub record IsStartedAgain {T : Type 0} (old new : KeptBank) (result : Result T R
   pub shape : SameShape old new
   pub begun : new.begun ≡ None
   pub spoiled : new.spoiled ≡ is_err result
+
+-- where the bytes that are told are such, nothing but the disk's own fault is answered
+abbrev pub FailsByDisk : {W T : Type 0} → Ghosts W → (List ℕ → Type 0) → W → Result T ReopenFault → Type 0
+FailsByDisk G P before result = IfErr result (λ fault. IfTold G before (λ held. P held → fault ≡ reopening.DiskFault))

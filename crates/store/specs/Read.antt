@@ -1,5 +1,6 @@
 -- What a read of a gate says.
-use Rattle.std.specs.Prelude.{◌≡◌, ℕ, ◌+◌, ◌*◌, ◌<◌, ◌≤◌, List, length, fold, Option}
+use Rattle.std.specs.Prelude.{◌≡◌, ℕ, ◌+◌, ◌*◌, ◌==◌, ◌<◌, ◌≤◌, List, length, drop, fold, slice_index, Option, None, Result}
+use Rattle.store.specs.Below.{Failed, Ghosts, number_at, PageSize, ReadsTold}
 use Rattle.store_format.specs.Bank as format
 use Rattle.store_format.specs.Bank.{RecordLine}
 use Rattle.store.specs.declared.read.Gate.{Gate}
@@ -35,3 +36,17 @@ pub record AreRead (gate count : ℕ) (old new : List (Option ℕ)) (bank : form
 abbrev pub IsBank : Found → (old new : List (Option ℕ)) → (base : ℕ) → format.Bank → Type 0
 IsBank (Holds base gate count) old new from bank = (base ≡ from) × AreRead gate count old new bank
 IsBank (Faulty offset) old new from bank = bank ≡ format.Faulty offset
+
+-- a reading of a bank, of a gate and of lines: what the bytes that are told hold there is found, and noted
+abbrev pub ReadsBank : {W : Type 0} → Ghosts W → PageSize → (at bank_bytes : ℕ) → (old new : List (Option ℕ)) → W → Result Found Failed → Type 0
+ReadsBank G page at bank_bytes old new before result =
+    ReadsTold G before (λ held found. IsBank found old new (number_at held at 8) (format.bank_held held page (length old) at bank_bytes)) result
+
+abbrev pub ReadsGate : {W : Type 0} → Ghosts W → PageSize → (end due gate : ℕ) → (old new : List (Option ℕ)) → W → Result Gate Failed → Type 0
+ReadsGate G page end due gate old new before result =
+    ReadsTold G before (λ held found. IsGate found gate old new (format.gate_if page (slice_index held gate == 0xA5) (length old) end due gate (drop gate held))) result
+
+abbrev pub ReadsLines : {W : Type 0} → Ghosts W → PageSize → (count at : ℕ) → (old new : List (Option ℕ)) → W → Result (Option ℕ) Failed → Type 0
+ReadsLines G page count at old new before result =
+    ReadsTold G before (λ held fault. (fault ≡ format.wrong_line (length old) 0 (format.lines_from page count at (drop at held)))
+    × (fault ≡ None → new ≡ noted old (format.lines_from page count at (drop at held)))) result

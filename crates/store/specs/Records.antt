@@ -1,6 +1,6 @@
 -- Where the records of a bank lie in its area, and what is read of one.
-use Rattle.std.specs.Prelude.{◌≡◌, ◌⊎◌, ℕ, ◌+◌, ◌<◌, List, [], ◌∷◌, ◌++◌, length, take, drop, slice_get, Some, IsSome, Result, IfOk}
-use Rattle.store.specs.Below.{big_number, Failed, FailsOnlyCounted, Ghosts, held_of, line_bytes, OnlyAsks, PageSize, record_bytes, RecordLine}
+use Rattle.std.specs.Prelude.{◌≡◌, ◌⊎◌, ℕ, ◌+◌, ◌*◌, ◌<◌, List, [], ◌∷◌, ◌++◌, length, take, drop, slice_get, Some, Result, IfOk}
+use Rattle.store.specs.Below.{AsksFor, big_number, entry_bytes, Failed, FailsOnlyCounted, Ghosts, line_bytes, number_at, OnlyAsks, PageSize, ReadsTold, record_bytes, RecordLine}
 use Rattle.store.specs.declared.find.Record.{Record}
 use Rattle.store.specs.Kept.{KeptBank}
 use Rattle.store.specs.Opened.{IsRead}
@@ -29,10 +29,16 @@ pub record IsCounted (page : PageSize) (place : ℕ) (lines : List RecordLine) (
   pub count : found.count ≡ length lines
   pub next : found.next ≡ place + record_bytes page (length lines)
 
--- bytes begin with a line of a record: its number, and its bytes
-pub record IsLine (page : PageSize) (bytes : List ℕ) (line : ℕ) (into : List ℕ) : Type 0 where
-  pub number : line ≡ big_number 4 bytes
-  pub bytes_are : into ≡ take (line_bytes page) (drop 4 bytes)
+-- the record is counted as these bytes count what lies at a place of an area, where that with a gate behind it fits so many bytes
+abbrev pub IsCountedAt : PageSize → (area bank_bytes place : ℕ) → List ℕ → Record → Type 0
+IsCountedAt page area bank_bytes place held found =
+    place + 11 + entry_bytes page * number_at held (area + place + 1) 2 < bank_bytes
+    → (found.count ≡ number_at held (area + place + 1) 2) × (found.next ≡ place + 11 + entry_bytes page * found.count)
+
+-- a line of a record lies in these bytes at an offset: its number, and its bytes
+pub record IsLine (page : PageSize) (at : ℕ) (into held : List ℕ) (line : ℕ) : Type 0 where
+  pub number : line ≡ big_number 4 (drop at held)
+  pub bytes_are : into ≡ take (line_bytes page) (drop 4 (drop at held))
 
 -- these are the number and the bytes of that line of a record
 pub record IsLineOf (lines : List RecordLine) (index line : ℕ) (into : List ℕ) : Type 0 where
@@ -46,11 +52,10 @@ pub record IsLineOf (lines : List RecordLine) (index line : ℕ) (into : List �
 pub record ReadsRecord {W : Type 0} (G : Ghosts W) (page : PageSize) (bank_bytes : ℕ) (bank : KeptBank) (place : ℕ) (before after : W) (result : Result Record Failed) : Type 0 where
   pub asks : OnlyAsks G before after
   pub found : IfOk result (IsFound page bank_bytes place)
-  pub read : IfOk result (λ found. IsSome (G.held before) → (at : IsRecordAt (held_of G before) bank place) → IsCounted page place at.lines found)
+  pub read : ReadsTold G before (λ held found. (at : IsRecordAt held bank place) → IsCounted page place at.lines found) result
   pub cause : FailsOnlyCounted (G.disk_faults before) (G.disk_faults after) result
 
 -- The same of a line of such a record: where the told bytes are the bank's, and the record has as many lines as was found, these are its number and its bytes.
-pub record ReadsLine {W : Type 0} (G : Ghosts W) (bank : KeptBank) (of : Record) (index : ℕ) (into : List ℕ) (before after : W) (result : Result ℕ Failed) : Type 0 where
-  pub asks : OnlyAsks G before after
-  pub read : IfOk result (λ line. IsSome (G.held before) → (at : IsRecordAt (held_of G before) bank of.place) → length at.lines ≡ of.count → IsLineOf at.lines index line into)
-  pub cause : FailsOnlyCounted (G.disk_faults before) (G.disk_faults after) result
+abbrev pub ReadsLine : {W : Type 0} → Ghosts W → KeptBank → (of : Record) → (index : ℕ) → (into : List ℕ) → W → W → Result ℕ Failed → Type 0
+ReadsLine G bank of index into before after result =
+    AsksFor G (λ held line. (at : IsRecordAt held bank of.place) → length at.lines ≡ of.count → IsLineOf at.lines index line into) before after result

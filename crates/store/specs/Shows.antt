@@ -54,6 +54,10 @@ page_in (Stands number store) page = take (page_bytes store.directory.page) (dro
 page_in (NotAStore offset) page = []
 page_in (Damaged offset) page = []
 
+-- bytes are that page of a store, where it is shown
+abbrev pub IsPageShown : {W : Type 0} → Ghosts W → KeptStore → W → ℕ → List ℕ → Type 0
+IsPageShown G store outside page bytes = IsShown G store outside → bytes ≡ page_in (stands (held_of G outside)) page
+
 -- the begun record was added, and the store is tracked
 pub record IsCommitted {W : Type 0} (G : Ghosts W) (old_store store : KeptStore) (old new : W) : Type 0 where
   pub tracks : TracksStore G store new

@@ -1,10 +1,10 @@
-ghost use Rattle.std.specs.Prelude.{◌≡◌, ◌≢◌, ◌+◌, ◌≤◌, ◌<◌, [], length, slice_get, Some, None, IsSome, IfSome, IfOk, IfErr, OnOk, is_err, false};
-ghost use Rattle.store.specs.Below.{held_of, line_bytes, total};
+ghost use Rattle.std.specs.Prelude.{◌≡◌, ◌≢◌, ◌+◌, ◌≤◌, ◌<◌, [], length, slice_get, Some, None, IfSome, IfOk, IfErr, OnOk, is_err, false};
+ghost use Rattle.store.specs.Below.{IfTold, line_bytes, ReadsTold, total};
 ghost use Rattle.store.specs.Kept.{KeptBank, area_end, number_of, with_line, spoilt, line_bytes_of, SameShape};
 ghost use Rattle.store.specs.Held.{HoldsAtLeast};
 ghost use Rattle.store.specs.Appended.{Appends, CanAppend, IsUsable, TakesLine};
 ghost use Rattle.store.specs.Chosen.{other, AsksBanksAgain, AsksOfBanks, IsChosen, IsStoreLike};
-ghost use Rattle.store.specs.Opened.{IsBankOf, IsStartedAgain};
+ghost use Rattle.store.specs.Opened.{FailsByDisk, IsBankOf, IsStartedAgain};
 ghost use Rattle.store.specs.Committed.{emptied, roomy, Checkpoints, Commits, Moves, store_bytes};
 
 use super::fault::{OpenFault, ReopenFault};
@@ -52,7 +52,7 @@ impl Banks {
         requires room { HoldsAtLeast W.Outside (total header.now) outside.old }
         ensures asks { AsksOfBanks W.Outside header.now outside.old outside.new result }
         ensures opened { IfOk result (λ bank. IsBankOf header.now bank.which bank) }
-        ensures read { IfOk result (λ bank. IsSome (W.held outside.old) → IsChosen (held_of W.Outside outside.old) bank) }
+        ensures read { ReadsTold W.Outside outside.old IsChosen result }
         ensures usable { IfOk result (λ bank. bank.spoiled ≡ false) }
     {
         let which = match read_selector(outside) {
@@ -77,8 +77,8 @@ impl Banks {
         requires room { HoldsAtLeast W.Outside (store_bytes self.old) outside.old }
         ensures asks { AsksBanksAgain W.Outside self.old outside.old outside.new result }
         ensures kept { IsStartedAgain self.old self.new result }
-        ensures read { OnOk result (IsSome (W.held outside.old) → IsChosen (held_of W.Outside outside.old) self.new) }
-        ensures intact { IfErr result (λ fault. IsSome (W.held outside.old) → IsStoreLike (held_of W.Outside outside.old) self.old → fault ≡ ReopenFault.DiskFault) }
+        ensures read { OnOk result (IfTold W.Outside outside.old (λ held. IsChosen held self.new)) }
+        ensures intact { FailsByDisk W.Outside (λ held. IsStoreLike held self.old) outside.old result }
     {
         match read_selector(outside) {
             Err(Failed) => {

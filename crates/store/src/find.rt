@@ -1,8 +1,8 @@
 // A record of a bank, found by its place in the area.
-ghost use Rattle.std.specs.Prelude.{◌≡◌, ◌+◌, ◌*◌, ◌≤◌, ◌<◌, ◌^◌, ◌∷◌, [], length, drop, slice_get, Some, IsSome, IfOk};
-ghost use Rattle.store.specs.Below.{entry_bytes, FailsOnlyCounted, held_of, line_bytes, number_at, OnlyAsks};
+ghost use Rattle.std.specs.Prelude.{◌≡◌, ◌+◌, ◌<◌, ◌^◌, length, IfOk};
+ghost use Rattle.store.specs.Below.{AsksFor, entry_bytes, FailsOnlyCounted, line_bytes, OnlyAsks, ReadsTold};
 ghost use Rattle.store.specs.Held.{HoldsAtLeast};
-ghost use Rattle.store.specs.Records.{IsFound, IsLine};
+ghost use Rattle.store.specs.Records.{IsCountedAt, IsFound, IsLine};
 
 use byteorder::{BigEndian, ByteOrder};
 use lines::PageSize;
@@ -31,8 +31,7 @@ pub fn read_record<W: Outside>(
     requires room { HoldsAtLeast W.Outside (area + bank_bytes) outside.old }
     ensures asks { OnlyAsks W.Outside outside.old outside.new }
     ensures found { IfOk result (IsFound page bank_bytes place) }
-    ensures read { IfOk result (λ found. IsSome (W.held outside.old) → place + 11 + entry_bytes page * number_at (held_of W.Outside outside.old) (area + place + 1) 2 < bank_bytes → found.count ≡ number_at (held_of W.Outside outside.old) (area + place + 1) 2) }
-    ensures fits { IfOk result (λ found. IsSome (W.held outside.old) → place + 11 + entry_bytes page * number_at (held_of W.Outside outside.old) (area + place + 1) 2 < bank_bytes → found.next ≡ place + 11 + entry_bytes page * found.count) }
+    ensures read { ReadsTold W.Outside outside.old (IsCountedAt page area bank_bytes place) result }
     ensures cause { FailsOnlyCounted (W.disk_faults outside.old) (W.disk_faults outside.new) result }
 {
     let none = Record {
@@ -64,9 +63,7 @@ pub fn read_line<W: Outside>(
     requires whole { length into.old ≡ line_bytes page }
     requires few { at < 2 ^ 63 }
     requires room { HoldsAtLeast W.Outside (at + entry_bytes page) outside.old }
-    ensures asks { OnlyAsks W.Outside outside.old outside.new }
-    ensures read { IfOk result (λ line. IsSome (W.held outside.old) → IsLine page (drop at (held_of W.Outside outside.old)) line into.new) }
-    ensures cause { FailsOnlyCounted (W.disk_faults outside.old) (W.disk_faults outside.new) result }
+    ensures { AsksFor W.Outside (IsLine page at into.new) outside.old outside.new result }
 {
     let mut number = [0; 4];
     outside.read_at(at, &mut number)?;

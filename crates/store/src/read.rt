@@ -1,9 +1,9 @@
 // Reading the records of a bank.
-ghost use Rattle.std.specs.Prelude.{◌≡◌, ℕ, ◌+◌, ◌*◌, ◌==◌, ◌≤◌, ◌<◌, ◌^◌, length, drop, slice_index, None, IsSome, IfOk};
-ghost use Rattle.store.specs.Below.{bank_held, entry_bytes, FailsOnlyCounted, gate_if, held_of, lines_from, number_at, OnlyAsks, wrong_line};
-ghost use Rattle.store.specs.Kept.{noted, AreWithin};
+ghost use Rattle.std.specs.Prelude.{◌≡◌, ◌+◌, ◌*◌, ◌<◌, ◌^◌, length, IfOk};
+ghost use Rattle.store.specs.Below.{entry_bytes, FailsOnlyCounted, OnlyAsks};
+ghost use Rattle.store.specs.Kept.{StaysWithin};
 ghost use Rattle.store.specs.Held.{HoldsAtLeast};
-ghost use Rattle.store.specs.Read.{IsGate, IsNext, IsBank, IsClosedIn};
+ghost use Rattle.store.specs.Read.{IsNext, IsClosedIn, ReadsBank, ReadsGate, ReadsLines};
 
 use crate::keep::OPEN;
 use byteorder::{BigEndian, ByteOrder};
@@ -40,8 +40,8 @@ pub fn read_bank<W: Outside>(
     ensures asks { OnlyAsks W.Outside outside.old outside.new }
     ensures len { length newest.new ≡ length newest.old }
     ensures within { IfOk result (IsClosedIn (at + 8) (at + 8 + bank_bytes)) }
-    ensures placed { AreWithin page (at + 8 + bank_bytes) newest.old → AreWithin page (at + 8 + bank_bytes) newest.new }
-    ensures found { IfOk result (λ found. IsSome (W.held outside.old) → IsBank found newest.old newest.new (number_at (held_of W.Outside outside.old) at 8) (bank_held (held_of W.Outside outside.old) page (length newest.old) at bank_bytes)) }
+    ensures placed { StaysWithin page (at + 8 + bank_bytes) newest.old newest.new }
+    ensures found { ReadsBank W.Outside page at bank_bytes newest.old newest.new outside.old result }
     ensures cause { FailsOnlyCounted (W.disk_faults outside.old) (W.disk_faults outside.new) result }
 {
     let mut head = [0; 8];
@@ -75,8 +75,8 @@ fn read_gate<W: Outside>(
     ensures asks { OnlyAsks W.Outside outside.old outside.new }
     ensures len { length newest.new ≡ length newest.old }
     ensures next { IfOk result (IsNext gate end) }
-    ensures placed { AreWithin page end newest.old → AreWithin page end newest.new }
-    ensures found { IfOk result (λ found. IsSome (W.held outside.old) → IsGate found gate newest.old newest.new (gate_if page (slice_index (held_of W.Outside outside.old) gate == 0xA5) (length newest.old) end due gate (drop gate (held_of W.Outside outside.old)))) }
+    ensures placed { StaysWithin page end newest.old newest.new }
+    ensures found { ReadsGate W.Outside page end due gate newest.old newest.new outside.old result }
     ensures cause { FailsOnlyCounted (W.disk_faults outside.old) (W.disk_faults outside.new) result }
 {
     let mut first = [0; 1];
@@ -115,9 +115,8 @@ fn read_lines<W: Outside>(
     requires few { at < 2 ^ 20 }
     ensures asks { OnlyAsks W.Outside outside.old outside.new }
     ensures len { length newest.new ≡ length newest.old }
-    ensures placed { (end : ℕ) → at + entry_bytes page * count ≤ end → AreWithin page end newest.old → AreWithin page end newest.new }
-    ensures fault { IfOk result (λ fault. IsSome (W.held outside.old) → fault ≡ wrong_line (length newest.old) 0 (lines_from page count at (drop at (held_of W.Outside outside.old)))) }
-    ensures noted { IfOk result (λ fault. IsSome (W.held outside.old) → fault ≡ None → newest.new ≡ noted newest.old (lines_from page count at (drop at (held_of W.Outside outside.old)))) }
+    ensures placed { StaysWithin page (at + entry_bytes page * count) newest.old newest.new }
+    ensures found { ReadsLines W.Outside page count at newest.old newest.new outside.old result }
     ensures cause { FailsOnlyCounted (W.disk_faults outside.old) (W.disk_faults outside.new) result }
 {
     let mut least = 0;

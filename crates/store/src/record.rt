@@ -1,7 +1,7 @@
 // The bytes of a record.
-ghost use Rattle.std.specs.Prelude.{◌≡◌, ℕ, ◌+◌, ◌*◌, ◌++◌, ◌≤◌, ◌<◌, ◌^◌, length, take, drop, replicate, slice_index, None};
-ghost use Rattle.store.specs.Below.{big_bytes, entry_bytes, lines_from, number_at, wrong_line};
-ghost use Rattle.store.specs.Kept.{noted, AreWithin};
+ghost use Rattle.std.specs.Prelude.{◌≡◌, ◌+◌, ◌*◌, ◌++◌, ◌≤◌, ◌<◌, ◌^◌, length, take, drop, replicate, slice_index, None};
+ghost use Rattle.store.specs.Below.{big_bytes, body_lines, entry_bytes, number_at, wrong_line};
+ghost use Rattle.store.specs.Kept.{noted, StaysWithin};
 ghost use Rattle.store.specs.Turned.{head_bytes};
 
 use byteorder::{BigEndian, ByteOrder};
@@ -54,10 +54,10 @@ pub fn word(number: u32) -> [u8; 4]
 pub fn note(newest: &mut OwnedList<Option<u64>>, body: &[u8], page: PageSize, gate: u64, count: u16)
     requires gate { gate < 2 ^ 20 }
     requires body { 10 + entry_bytes page * count ≤ length body.now }
-    requires ordered { wrong_line (length newest.old) 0 (lines_from page count (gate + 11) (drop 10 body.now)) ≡ None }
-    ensures value { newest.new ≡ noted newest.old (lines_from page count (gate + 11) (drop 10 body.now)) }
+    requires ordered { wrong_line (length newest.old) 0 (body_lines page count gate body.now) ≡ None }
+    ensures value { newest.new ≡ noted newest.old (body_lines page count gate body.now) }
     ensures len { length newest.new ≡ length newest.old }
-    ensures placed { (end : ℕ) → gate + 11 + entry_bytes page * count ≤ end → AreWithin page end newest.old → AreWithin page end newest.new }
+    ensures placed { StaysWithin page (gate + 11 + entry_bytes page * count) newest.old newest.new }
 {
     for i in 0..count {
         let at = entries_bytes(page, i) as usize;

@@ -1,7 +1,7 @@
-ghost use Rattle.std.specs.Prelude.{◌≡◌, ◌≢◌, ◌↔◌, ◌+◌, ◌*◌, ◌%◌, ◌≤◌, ◌<◌, ◌^◌, [], All, length, take, slice_set, slice_get, slice_range, is_some, Some, None, IsNone, IsSome, IfSome, IfOk, IfErr, OnOk, is_err, false};
+ghost use Rattle.std.specs.Prelude.{◌≡◌, ◌≢◌, ◌↔◌, ◌+◌, ◌*◌, ◌%◌, ◌≤◌, ◌<◌, ◌^◌, [], All, length, take, slice_set, slice_get, slice_range, is_some, Some, None, IsNone, IfSome, IfOk, IfErr, OnOk, is_err, false};
 ghost use Rattle.std.specs.List.{list_any};
-ghost use Rattle.store.specs.Below.{HasRanges, held_of, record_bytes, total};
-ghost use Rattle.store.specs.Kept.{KeptBank, place_of, end_of, area_end, number_of, begun_of, needed_end, with_line, spoilt, line_bytes_of, record_bytes_of, SameShape};
+ghost use Rattle.store.specs.Below.{HasRanges, IfTold, ReadsTold, record_bytes, total};
+ghost use Rattle.store.specs.Kept.{KeptBank, place_of, end_of, end_with, area_end, number_of, begun_of, needed_end, with_line, spoilt, line_bytes_of, record_bytes_of, SameShape};
 ghost use Rattle.store.specs.Appended.{Appends, CanAppend, IsUsable, TakesLine};
 ghost use Rattle.store.specs.Turned.{turned, WritesHead};
 ghost use Rattle.store.specs.Held.{HoldsAtLeast};
@@ -65,7 +65,7 @@ impl Bank {
         requires room { HoldsAtLeast W.Outside (total header.now) outside.old }
         ensures asks { AsksOfBank W.Outside header.now which outside.old outside.new result }
         ensures opened { IfOk result (IsBankOf header.now which) }
-        ensures read { IfOk result (λ bank. IsSome (W.held outside.old) → IsRead (held_of W.Outside outside.old) bank) }
+        ensures read { ReadsTold W.Outside outside.old IsRead result }
         ensures usable { IfOk result (λ bank. bank.spoiled ≡ false) }
     {
         let mut bank = Bank::of_store(alloc, header)?;
@@ -109,7 +109,7 @@ impl Bank {
         ensures asks { AsksBankAgain W.Outside which self.old outside.old outside.new result }
         ensures kept { IsStartedAgain self.old self.new result }
         ensures turned { OnOk result (self.new.which ≡ which) }
-        ensures read { OnOk result (IsSome (W.held outside.old) → IsRead (held_of W.Outside outside.old) self.new) }
+        ensures read { OnOk result (IfTold W.Outside outside.old (λ held. IsRead held self.new)) }
     {
         forget(&mut self.newest);
         let at = place_of(which, self.bank_bytes);
@@ -203,9 +203,9 @@ impl Bank {
 
     /// How many lines a record may have to fit the rest of the bank; none where not even an empty one fits.
     pub fn room(&self) -> Option<u32>
-        ensures none { IsNone result ↔ (area_end self.now < self.now.gate + record_bytes_of self.now 0 + 1) }
-        ensures fits { IfSome result (λ lines. self.now.gate + record_bytes_of self.now lines + 1 ≤ area_end self.now) }
-        ensures most { IfSome result (λ lines. area_end self.now < self.now.gate + record_bytes_of self.now (lines + 1) + 1) }
+        ensures none { IsNone result ↔ (area_end self.now < end_with self.now 0) }
+        ensures fits { IfSome result (λ lines. end_with self.now lines ≤ area_end self.now) }
+        ensures most { IfSome result (λ lines. area_end self.now < end_with self.now (lines + 1)) }
     {
         let left = end_of(self.which, self.bank_bytes) - self.gate;
         if left < 12 {

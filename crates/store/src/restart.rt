@@ -1,13 +1,13 @@
-ghost use Rattle.std.specs.Prelude.{◌≡◌, ◌≢◌, ◌+◌, ◌*◌, ◌%◌, ◌^◌, ◌≤◌, ◌<◌, [], All, length, Some, None, IsTrue, IsSome, IfOk, IfErr, OnOk, is_err, false};
+ghost use Rattle.std.specs.Prelude.{◌≡◌, ◌≢◌, ◌+◌, ◌*◌, ◌%◌, ◌^◌, ◌≤◌, ◌<◌, [], All, length, Some, None, IsTrue, IsSome, IfOk, OnOk, is_err, false};
 ghost use Rattle.lines.specs.Directory.{page_count};
-ghost use Rattle.store.specs.Below.{FailsOnlyCounted, held_of, line_bytes, line_count, OnlyAsks, page_bytes, record_bytes, stands, total};
+ghost use Rattle.store.specs.Below.{FailsOnlyCounted, line_bytes, line_count, OnlyAsks, page_bytes, record_bytes, total};
 ghost use Rattle.store.specs.Appended.{CanAppend, IsUsable};
 ghost use Rattle.store.specs.Held.{HoldsAtLeast};
 ghost use Rattle.store.specs.Kept.{begun_of, with_line};
 ghost use Rattle.store.specs.Records.{ReadsRecord, ReadsLine};
 ghost use Rattle.store.specs.KeptStore.{number_of};
-ghost use Rattle.store.specs.Shows.{CheckpointsStore, CommitsStore, IsOpened, IsReadAgain, IsShown, IsStoreWith, page_in};
-ghost use Rattle.store.specs.Opened.{IsStartedAgain};
+ghost use Rattle.store.specs.Shows.{CheckpointsStore, CommitsStore, IsOpened, IsPageShown, IsReadAgain, IsStoreWith};
+ghost use Rattle.store.specs.Opened.{FailsByDisk, IsStartedAgain};
 ghost use Rattle.store.specs.Faults.{AsksOfStore, AsksStoreAgain};
 
 use super::checkpoint::Banks;
@@ -101,7 +101,7 @@ impl Durable {
         ensures header { self.new.header ≡ self.old.header }
         ensures kept { IsStartedAgain self.old.bank self.new.bank result }
         ensures read { OnOk result (IsReadAgain W.Outside self.new outside.old outside.new) }
-        ensures intact { IfErr result (λ fault. IsSome (W.held outside.old) → IsStoreWith self.old.header (held_of W.Outside outside.old) → fault ≡ ReopenFault.DiskFault) }
+        ensures intact { FailsByDisk W.Outside (IsStoreWith self.old.header) outside.old result }
     {
         match synced(outside) {
             Err(Failed) => {
@@ -206,7 +206,7 @@ impl Durable {
         requires page { page < page_count self.now.header.directory }
         requires whole { length into.old ≡ page_bytes self.now.header.directory.page }
         ensures asks { OnlyAsks W.Outside outside.old outside.new }
-        ensures read { OnOk result (IsShown W.Outside self.now outside.old → into.new ≡ page_in (stands (held_of W.Outside outside.old)) page) }
+        ensures read { OnOk result (IsPageShown W.Outside self.now outside.old page into.new) }
         ensures cause { FailsOnlyCounted (W.disk_faults outside.old) (W.disk_faults outside.new) result }
     {
         let first = u32::from(page) * 16;

@@ -1,6 +1,6 @@
 // The byte that chooses a bank.
-ghost use Rattle.std.specs.Prelude.{◌≡◌, ◌∷◌, [], IsSome, IfOk};
-ghost use Rattle.store.specs.Below.{chosen, FailsOnlyCounted, held_of, OnlyAsks};
+ghost use Rattle.std.specs.Prelude.{◌≡◌, ◌∷◌, []};
+ghost use Rattle.store.specs.Below.{AsksFor, chosen};
 ghost use Rattle.store.specs.Held.{HoldsAtLeast, WritesSure};
 ghost use Rattle.store.specs.Chosen.{other, selector_of};
 
@@ -24,9 +24,7 @@ pub fn other_of(which: Which) -> Which
 /// Which bank the selector chooses.
 pub fn read_selector<W: Outside>(outside: &mut W) -> Result<Which, Failed>
     requires room { HoldsAtLeast W.Outside 129 outside.old }
-    ensures asks { OnlyAsks W.Outside outside.old outside.new }
-    ensures selected { IfOk result (λ which. IsSome (W.held outside.old) → chosen (held_of W.Outside outside.old) ≡ which) }
-    ensures cause { FailsOnlyCounted (W.disk_faults outside.old) (W.disk_faults outside.new) result }
+    ensures { AsksFor W.Outside (λ held which. chosen held ≡ which) outside.old outside.new result }
 {
     let mut selector = [0; 1];
     outside.read_at(SELECTOR_AT, &mut selector)?;

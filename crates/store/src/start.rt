@@ -1,6 +1,6 @@
 // How an opening begins: the disk is synced, and the header is read.
-ghost use Rattle.std.specs.Prelude.{IsTrue, IsSome, IfOk, OnOk};
-ghost use Rattle.store.specs.Below.{FailsOnlyCounted, HasHeader, held_of, IsSure, OnlyAsks, total};
+ghost use Rattle.std.specs.Prelude.{IfOk, OnOk};
+ghost use Rattle.store.specs.Below.{FailsOnlyCounted, HasHeader, MakesSure, OnlyAsks, ReadsTold, total};
 ghost use Rattle.store.specs.Held.{HoldsAtLeast};
 ghost use Rattle.store.specs.Faults.{AsksAtStart};
 
@@ -11,9 +11,9 @@ use store_format::{Header, HeaderFault, read_header};
 /// Makes the disk's bytes sure, and reads the header.
 pub fn start<W: Outside>(outside: &mut W) -> Result<Header, OpenFault>
     ensures asks { AsksAtStart W.Outside outside.old outside.new result }
-    ensures sure { OnOk result (IsTrue (W.is_honest outside.old) → IsSome (W.held outside.old) → IsSure W.Outside outside.new) }
+    ensures sure { OnOk result (MakesSure W.Outside outside.old outside.new) }
     ensures room { IfOk result (λ header. HoldsAtLeast W.Outside (total header) outside.new) }
-    ensures header { IfOk result (λ header. IsSome (W.held outside.old) → HasHeader (held_of W.Outside outside.old) header) }
+    ensures header { ReadsTold W.Outside outside.old HasHeader result }
 {
     match synced(outside) {
         Err(Failed) => return Err(OpenFault::DiskFault),
@@ -29,7 +29,7 @@ pub fn start<W: Outside>(outside: &mut W) -> Result<Header, OpenFault>
 /// Makes the disk's bytes sure.
 pub fn synced<W: Outside>(outside: &mut W) -> Result<(), Failed>
     ensures asks { OnlyAsks W.Outside outside.old outside.new }
-    ensures sure { OnOk result (IsTrue (W.is_honest outside.old) → IsSome (W.held outside.old) → IsSure W.Outside outside.new) }
+    ensures sure { OnOk result (MakesSure W.Outside outside.old outside.new) }
     ensures cause { FailsOnlyCounted (W.disk_faults outside.old) (W.disk_faults outside.new) result }
 {
     outside.sync()

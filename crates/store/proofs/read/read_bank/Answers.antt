@@ -1,4 +1,4 @@
-use Rattle.store.proofs.Lemmas.{nat_tests, ◌≡◌, ℕ, ◌+◌, ◌%◌, ◌^◌, List, length, drop, sym, subst, ◌∙◌, ap, arith, refl, IsSome, Option, big_number, big_from-take, number_at, gate_at, bank_held, held_of, AreWithin, read_is, asks_one, asks_on, reads_within, read_gate, starts, read_closed, read_wrong, read_sound, area_to}
+use Rattle.store.proofs.Lemmas.{nat_tests, ◌≡◌, ℕ, ◌+◌, ◌%◌, ◌^◌, List, length, drop, sym, subst, ◌∙◌, ap, arith, refl, IsSome, Option, big_number, big_from-take, number_at, gate_at, bank_held, held_of, read_is, asks_one, asks_on, reads_within, read_gate, starts, read_closed, read_wrong, read_sound, area_to}
 use Rattle.store_format.specs.Bank as format
 use Rattle.store.proofs.read.read_bank.Given.{Over}
 use Rattle.store.proofs.read.read_bank.Goals as goal
@@ -45,7 +45,7 @@ loop-count-init g c = record {
   asks = asks_one g.W.Outside c.args.outside.now c.read_at.new.self c.read_at.ensures.asks c.read_at.result c.read_at.ensures.counts;
   no_fault = c.in_ok-read_at.ensures.counts.cause.done;
   len = refl;
-  placed = λ are. are;
+  placed = λ end few are. are;
   far = omega arith;
   inside = omega (arith, c.requires.some);
   reaches = λ some. starts c.args.page (held_of g.W.Outside c.args.outside.now) (length c.args.newest.now) (c.args.at + 8 + c.args.bank_bytes) c.args.bank_bytes c.read_u64-base.result (c.args.at + 8) c.args.newest.now (omega (arith, c.requires.some));
@@ -87,7 +87,7 @@ loop-count-preserved g c =
       asks = asks_on g.W.Outside g.met.W.Outside.fewer_later c.args.outside.now c.loop-count.outside c.read_gate.new.outside c.loop-count.invariant.asks c.read_gate.ensures.asks;
       no_fault = c.in_ok-read_gate.ensures.cause.done ∙ c.loop-count.invariant.no_fault;
       len = c.read_gate.ensures.len ∙ c.loop-count.invariant.len;
-      placed = λ are. subst (λ (n : ℕ). AreWithin c.args.page (c.args.at + 8 + n) c.loop-count.newest → AreWithin c.args.page (c.args.at + 8 + n) c.read_gate.new.newest) c.from.ensures c.read_gate.ensures.placed (c.loop-count.invariant.placed are);
+      placed = λ end few are. c.read_gate.ensures.placed end (omega (arith, few, c.from.ensures)) (c.loop-count.invariant.placed end few are);
       far = omega (arith, c.loop-count.invariant.far, next.0);
       inside = omega (arith, next.1, c.from.ensures);
       reaches = λ some. let found = rw c.in-Sound.is at (c.in_ok-read_gate.ensures.found (still g at some)) in

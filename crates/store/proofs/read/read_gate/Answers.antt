@@ -44,18 +44,18 @@ returns-in-None-clause-asks g c = asks_on g.W.Outside g.met.W.Outside.fewer_late
 pub returns-in-Some-clause-found : goal.returns-in-Some-clause-found
 returns-in-Some-clause-found g c some =
     let at = (goal.at.returns-in-Some-clause-found g c).After-read_lines in
-    let fault : wrong_line (length c.args.newest.now) 0 (lines g at) ≡ Some c.in-Some.offset = ap (wrong_line (length c.args.newest.now) 0) (sym (same g at)) ∙ sym (c.in_ok-offset.ensures.fault (still g at some)) ∙ c.in-Some.is in
+    let fault : wrong_line (length c.args.newest.now) 0 (lines g at) ≡ Some c.in-Some.offset = ap (wrong_line (length c.args.newest.now) 0) (sym (same g at)) ∙ sym (c.in_ok-offset.ensures.found (still g at some)).0 ∙ c.in-Some.is in
     gate_is g at some ∙ ap (λ (those : Option ℕ). lined_gate those (lines g at) (c.args.gate + 11 + entry_bytes c.args.page * c.read_u16-count.result)) fault
 
 pub returns-in-None-clause-found : goal.returns-in-None-clause-found
 returns-in-None-clause-found g c some =
     let at = (goal.at.returns-in-None-clause-found g c).After-read_lines in
-    let fault : wrong_line (length c.args.newest.now) 0 (lines g at) ≡ None = ap (wrong_line (length c.args.newest.now) 0) (sym (same g at)) ∙ sym (c.in_ok-offset.ensures.fault (still g at some)) ∙ c.in-None.is in (
+    let fault : wrong_line (length c.args.newest.now) 0 (lines g at) ≡ None = ap (wrong_line (length c.args.newest.now) 0) (sym (same g at)) ∙ sym (c.in_ok-offset.ensures.found (still g at some)).0 ∙ c.in-None.is in (
       lines g at,
       gate_is g at some
           ∙ ap (λ (those : Option ℕ). lined_gate those (lines g at) (c.args.gate + 11 + entry_bytes c.args.page * c.read_u16-count.result)) fault
           ∙ ap (λ (n : ℕ). lined_gate None (lines g at) (c.args.gate + 11 + n)) (sym (c.from.ensures ∙ c.entries_bytes.ensures.value)),
-      c.in_ok-offset.ensures.noted (still g at some) c.in-None.is ∙ ap (noted c.args.newest.now) (same g at),
+      (c.in_ok-offset.ensures.found (still g at some)).1 c.in-None.is ∙ ap (noted c.args.newest.now) (same g at),
     )
 
 pub returns-then-read_u64-due-clause-asks : goal.returns-then-read_u64-due-clause-asks

@@ -15,8 +15,8 @@ asked g c =
 pub returns-then-from-least-clause-asks : goal.returns-then-from-least-clause-asks
 returns-then-from-least-clause-asks g c = asked g (goal.at.returns-then-from-least-clause-asks g c).After-read_u32-line
 
-pub returns-then-from-least-clause-fault : goal.returns-then-from-least-clause-fault
-returns-then-from-least-clause-fault g c some = grind (arith, nat_tests, is_low, wrong_here, c.loop-i.invariant.fault)
+pub returns-then-from-least-clause-found : goal.returns-then-from-least-clause-found
+returns-then-from-least-clause-found g c some = (grind (arith, nat_tests, is_low, wrong_here, c.loop-i.invariant.fault), λ none. cc)
 
 pub loop-i-preserved : goal.loop-i-preserved
 loop-i-preserved g c =

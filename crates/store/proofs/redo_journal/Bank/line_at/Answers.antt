@@ -1,4 +1,4 @@
-use Rattle.store.proofs.Lemmas.{◌≡◌, ◌+◌, ◌*◌, ℕ, length, drop, ap, subst, ◌∙◌, arith, PageSize, entry_bytes, held_of, KeptBank, place_of, IsRecordAt, IsLine, IsLineOf, IsSome, lined, IfOk-weaker}
+use Rattle.store.proofs.Lemmas.{◌≡◌, ◌+◌, ◌*◌, ℕ, length, ap, subst, ◌∙◌, arith, PageSize, entry_bytes, held_of, KeptBank, place_of, IsRecordAt, IsLine, IsLineOf, IsSome, lined, IfOk-weaker}
 use Rattle.store.proofs.redo_journal.Bank.line_at.Goals as goal
 
 pub returns : goal.returns
@@ -15,14 +15,14 @@ returns g c =
       read =
           IfOk-weaker c.read_line.result
           (λ (line : ℕ). IsSome (g.W.Outside.held c.args.outside.now)
-          → IsLine c.self.inside.page (drop (c.place_of.result + 8 + c.from.result + 11 + c.from-2.result) held) line c.read_line.new.into)
+          → IsLine c.self.inside.page (c.place_of.result + 8 + c.from.result + 11 + c.from-2.result) c.read_line.new.into held line)
           (λ (line : ℕ). IsSome (g.W.Outside.held c.args.outside.now) → (at : IsRecordAt held bank c.args.of.now.place)
           → length at.lines ≡ c.args.of.now.count → IsLineOf at.lines c.args.index line c.read_line.new.into)
           (λ line is some at many.
           lined held bank c.args.of.now.place area at place c.args.index line c.read_line.new.into (omega (arith, many, c.requires.below))
-          (subst (λ (n : ℕ). IsLine bank.page (drop n held) line c.read_line.new.into) from
+          (subst (λ (n : ℕ). IsLine bank.page n c.read_line.new.into held line) from
           (subst (λ (size : PageSize).
-          IsLine size (drop (c.place_of.result + 8 + c.from.result + 11 + c.from-2.result) held) line c.read_line.new.into) page (is some))))
+          IsLine size (c.place_of.result + 8 + c.from.result + 11 + c.from-2.result) c.read_line.new.into held line) page (is some))))
           c.read_line.ensures.read;
       cause = c.read_line.ensures.cause;
     }
