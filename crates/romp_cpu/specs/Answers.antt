@@ -1,13 +1,15 @@
 -- The answer of a storage to an access.
-use Rattle.std.specs.Prelude.{◌≢◌, ℕ, ◌+◌, ◌<◌, Bool, false, not, List, map, find, Option, Some, None, Result, Ok, Err}
+use Rattle.std.specs.Prelude.{◌≡◌, ◌≢◌, ℕ, ◌+◌, ◌<◌, Bool, false, not, List, map, find, Option, Some, None, Result, Ok, Err}
 use Rattle.std.specs.List.{range_with_len}
 use Rattle.page_table.specs.declared.segment_regs.Check.{Check}
 use Rattle.lines.specs.declared.line_geometry.PageSize.{PageSize}
 use Rattle.page_table.specs.declared.segment_regs.Virtual.{Virtual}
 use Rattle.page_table.specs.Registers.{Registers, bytes_on, located_by}
+use Rattle.flat_machine.specs.Access.{FitsFrom}
 use Rattle.romp_cpu.specs.declared.storage.Access.{Access}
 use Rattle.romp_cpu.specs.declared.storage.Fault.{Fault}
 use Rattle.romp_cpu.specs.declared.storage.Probe.{Probe}
+use Rattle.romp_cpu.specs.Shown.{access_to}
 
 -- where each byte of a range lies
 abbrev pub bytes_of_range : PageSize → Virtual → (count : ℕ) → List Virtual
@@ -40,6 +42,15 @@ answered registers is_in_frame refuses access =
 -- the same in each state
 abbrev pub answer_in : {S : Type 0} → (S → Registers) → (S → Virtual → Bool) → (S → Virtual → Bool → Bool) → S → Access → Probe
 answer_in registers is_in_frame refuses state = answered (registers state) (is_in_frame state) (refuses state)
+
+-- an access of so many bytes is permitted
+abbrev pub MayAccess : {S : Type 0} → (S → Registers) → (S → Virtual → Bool) → (S → Virtual → Bool → Bool) → S → (address bytes : ℕ) → Bool → Type 0
+MayAccess registers is_in_frame refuses state address bytes store = answer_in registers is_in_frame refuses state (access_to address bytes store) ≡ Probe.Permitted
+
+-- an access loads, or stores, registers from one upwards
+pub record FitsRegisters (wants : Access) (store : Bool) (register : ℕ) : Type 0 where
+  pub kind : wants.store ≡ store
+  pub fits : FitsFrom wants.bytes register
 
 -- the answer that a result tells of
 abbrev pub answer_of : {A : Type 0} → Result A Probe → Probe

@@ -7,8 +7,8 @@ ghost use Rattle.page_table.specs.Registers.{Registers};
 ghost use Rattle.page_table.specs.declared.segment_regs.Virtual.{Virtual};
 ghost use Rattle.romp_cpu.specs.declared.storage.Access.{Access};
 ghost use Rattle.romp_cpu.specs.declared.storage.Probe.{Probe};
-ghost use Rattle.romp_cpu.specs.Shown.{bytes_from, halfword_of, access_to};
-ghost use Rattle.romp_cpu.specs.Answers.{answer_in, if_permitted, IsOutside};
+ghost use Rattle.romp_cpu.specs.Shown.{bytes_from, halfword_of};
+ghost use Rattle.romp_cpu.specs.Answers.{answer_in, FitsRegisters, if_permitted, IsOutside, MayAccess};
 
 use flat_machine::Ready;
 use page_table::Virtual;
@@ -68,7 +68,7 @@ pub trait Storage {
 
     /// The row made ready at an address, if one is known there.
     fn ready(&self, address: u32) -> Option<&Ready>
-        ensures { IfSome result (λ row. IsReadyAt row.now (halfword_of (byte_at (state self.now))) address) };
+        ensures { IfSome result (λ it. IsReadyAt it.now (halfword_of (byte_at (state self.now))) address) };
 
     /// Makes the row at an address ready, where it is one that can be. The state stays.
     fn prepare(&mut self, address: u32)
@@ -82,13 +82,13 @@ pub trait Storage {
 
     /// Fills the slice with the bytes from an address on, an access that is permitted.
     fn load(&self, address: u32, into: &mut [u8])
-        requires { answer_in registers is_in_frame refuses (state self.now) (access_to address (length into.old) false) ≡ Probe.Permitted }
+        requires { MayAccess registers is_in_frame refuses (state self.now) address (length into.old) false }
         ensures { into.new ≡ bytes_from (byte_at (state self.now)) address (length into.old) };
 
     /// Stores bytes from an address on, an access that is permitted. The range then shows them, and other addresses change
     /// only where they name the same byte through another register. No access gets another answer.
     fn store(&mut self, address: u32, from: &[u8])
-        requires { answer_in registers is_in_frame refuses (state self.old) (access_to address (length from.now) true) ≡ Probe.Permitted }
+        requires { MayAccess registers is_in_frame refuses (state self.old) address (length from.now) true }
         ensures state { state self.new ≡ stored (state self.old) address from.now }
         ensures shows { bytes_from (byte_at (state self.new)) address (length from.now) ≡ from.now }
         ensures others { (other : ℕ) → IsOutside (registers (state self.old)) address (length from.now) other → byte_at (state self.new) other ≡ byte_at (state self.old) other }
@@ -96,8 +96,7 @@ pub trait Storage {
 
     /// Fills registers from one upwards with the bytes of an access, as `load` tells them, if `probe` permits it.
     fn read(&mut self, wants: &Access, to: u8, sign: bool, regs: &mut [u32; 16]) -> Probe
-        requires loads { wants.now.store ≡ false }
-        requires fits { FitsFrom wants.now.bytes to }
+        requires { FitsRegisters wants.now false to }
         ensures answer { result ≡ answer_in registers is_in_frame refuses (state self.old) wants.now }
         ensures state { state self.new ≡ state self.old }
         ensures registers { regs.new ≡ if_permitted result (filled to sign (bytes_from (byte_at (state self.old)) wants.now.address wants.now.bytes) regs.old) regs.old };
@@ -106,20 +105,19 @@ pub trait Storage {
     /// does nothing.
     fn read_known(&self, address: u32, bytes: u8, to: u8, sign: bool, regs: &mut [u32; 16]) -> bool
         requires { FitsFrom bytes to }
-        ensures permitted { result ≡ true → answer_in registers is_in_frame refuses (state self.now) (access_to address bytes false) ≡ Probe.Permitted }
+        ensures permitted { result ≡ true → MayAccess registers is_in_frame refuses (state self.now) address bytes false }
         ensures registers { regs.new ≡ (if result then filled to sign (bytes_from (byte_at (state self.now)) address bytes) regs.old else regs.old) };
 
     /// Does what `write` does for so many bytes from an address on, where it is known at once that this is permitted. Else it
     /// does nothing.
     fn write_known(&mut self, address: u32, bytes: u8, from: u8, regs: &[u32; 16]) -> bool
         requires { FitsFrom bytes from }
-        ensures permitted { result ≡ true → answer_in registers is_in_frame refuses (state self.old) (access_to address bytes true) ≡ Probe.Permitted }
+        ensures permitted { result ≡ true → MayAccess registers is_in_frame refuses (state self.old) address bytes true }
         ensures state { state self.new ≡ (if result then stored (state self.old) address (stored_bytes regs.now bytes from) else state self.old) };
 
     /// Stores the bytes of registers from one upwards, as `store` does, if `probe` permits the access.
     fn write(&mut self, wants: &Access, from: u8, regs: &[u32; 16]) -> Probe
-        requires stores { wants.now.store ≡ true }
-        requires fits { FitsFrom wants.now.bytes from }
+        requires { FitsRegisters wants.now true from }
         ensures answer { result ≡ answer_in registers is_in_frame refuses (state self.old) wants.now }
         ensures state { state self.new ≡ if_permitted result (stored (state self.old) wants.now.address (stored_bytes regs.now wants.now.bytes from)) (state self.old) };
 }
