@@ -2,7 +2,9 @@
 use Rattle.std.specs.Prelude.{◌≡◌, ℕ, Bool, true, if◌then◌else◌, List, Ok}
 use Rattle.storage_unit.specs.Below.{Access, answered_at, bytes_from, filled, if_permitted, Probe, stored_bytes, Virtual}
 use Rattle.storage_unit.specs.declared.model.Reach.{Reach}
+use Rattle.storage_unit.specs.declared.unit.Unit.{Unit}
 use Rattle.storage_unit.specs.Reach.{answer_to, byte_at, is_in_frame, refuses, stored}
+use Rattle.storage_unit.specs.View.{reach_of}
 
 -- an access of so many bytes that begins at a byte is answered so, whatever its address
 abbrev pub AnswersAt : Reach → Virtual → (bytes : ℕ) → (store : Bool) → Probe → Type 0
@@ -18,22 +20,22 @@ abbrev pub saved : Reach → Access → (from : ℕ) → List ℕ → Reach
 saved state wants from registers = stored state wants.address (stored_bytes registers wants.bytes from)
 
 -- registers are filled with bytes, as they are probed and loaded
-pub record IsRead (old new : Reach) (wants : Access) (to : ℕ) (sign : Bool) (registers after : List ℕ) (told : Probe) : Type 0 where
-  pub answer : told ≡ answer_to old wants
-  pub state : new ≡ old
-  pub filled : after ≡ if_permitted told (loaded old wants to sign registers) registers
+pub record IsRead (old new : Unit) (wants : Access) (to : ℕ) (sign : Bool) (registers after : List ℕ) (told : Probe) : Type 0 where
+  pub answer : told ≡ answer_to (reach_of old) wants
+  pub state : reach_of new ≡ reach_of old
+  pub filled : after ≡ if_permitted told (loaded (reach_of old) wants to sign registers) registers
 
 -- the bytes of registers are stored, as they are probed
-pub record IsWritten (old new : Reach) (wants : Access) (from : ℕ) (registers : List ℕ) (told : Probe) : Type 0 where
-  pub answer : told ≡ answer_to old wants
-  pub state : new ≡ if_permitted told (saved old wants from registers) old
+pub record IsWritten (old new : Unit) (wants : Access) (from : ℕ) (registers : List ℕ) (told : Probe) : Type 0 where
+  pub answer : told ≡ answer_to (reach_of old) wants
+  pub state : reach_of new ≡ if_permitted told (saved (reach_of old) wants from registers) (reach_of old)
 
 -- registers are filled with bytes, which may be accessed, where that is answered; else they stay
-pub record IsReadIf (did : Bool) (state : Reach) (wants : Access) (to : ℕ) (sign : Bool) (registers after : List ℕ) : Type 0 where
-  pub permitted : did ≡ true → answer_to state wants ≡ Probe.Permitted
-  pub filled : after ≡ (if did then loaded state wants to sign registers else registers)
+pub record IsReadIf (did : Bool) (unit : Unit) (wants : Access) (to : ℕ) (sign : Bool) (registers after : List ℕ) : Type 0 where
+  pub permitted : did ≡ true → answer_to (reach_of unit) wants ≡ Probe.Permitted
+  pub filled : after ≡ (if did then loaded (reach_of unit) wants to sign registers else registers)
 
 -- the bytes of registers are stored, which may be accessed, where that is answered; else all stays
-pub record IsWrittenIf (did : Bool) (old new : Reach) (wants : Access) (from : ℕ) (registers : List ℕ) : Type 0 where
-  pub permitted : did ≡ true → answer_to old wants ≡ Probe.Permitted
-  pub state : new ≡ (if did then saved old wants from registers else old)
+pub record IsWrittenIf (did : Bool) (old new : Unit) (wants : Access) (from : ℕ) (registers : List ℕ) : Type 0 where
+  pub permitted : did ≡ true → answer_to (reach_of old) wants ≡ Probe.Permitted
+  pub state : reach_of new ≡ (if did then saved (reach_of old) wants from registers else reach_of old)

@@ -31,7 +31,7 @@ pub use Rattle.page_table.specs.declared.key.Key.{Key}
 pub use Rattle.page_table.specs.declared.segment_regs.Virtual.{Virtual}
 pub use Rattle.page_table.specs.declared.tlb_model.Pair.{Pair}
 pub use Rattle.ready_rows.specs.Known.{known, unless_met}
-pub use Rattle.romp_cpu.specs.Answers.{answer_in, answer_of, answered_at, if_permitted, IsRefusal}
+pub use Rattle.romp_cpu.specs.Answers.{answer_in, answer_of, answered_at, FitsRegisters, if_permitted, IsRefusal}
 pub use Rattle.romp_cpu.specs.Attempts.{IsOfFewBytes, lines_of_access}
 pub use Rattle.romp_cpu.specs.Shown.{access_to, bytes_from, halfword_of}
 pub use Rattle.romp_cpu.specs.Tried.{at, how_went, seen_in, Tried, tried}

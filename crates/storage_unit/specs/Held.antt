@@ -1,6 +1,6 @@
 -- What the table of a unit holds, and what stands under the registers of the seat that is selected.
 use Rattle.std.specs.Prelude.{◌≡◌, ℕ, ◌+◌, ◌/◌, ◌%◌, ◌<◌, nat_lt, if◌then◌else◌, Bool, true, false, List, [], map, replicate, slice_index_or, slice_set, Option, Some, None, option_map}
-use Rattle.storage_unit.specs.Below.{frame_at, IsOfPage, Key, key_of, key_to, Layout, length_of, look_up, option_map_or, PageSize, Placed, Pool, private_frames, private_register, range_with_len, Registers, Virtual}
+use Rattle.storage_unit.specs.Below.{frame_at, IsOfPage, Key, key_of, key_to, Layout, length_of, look_up, option_map_or, overlaid, PageSize, Placed, Pool, private_frames, private_register, range_with_len, Registers, Virtual}
 use Rattle.lines.specs.declared.line_geometry.PageSize.TheVariants.{Two, Four}
 use Rattle.page_table.specs.declared.segment_regs.SegmentRegister.{SegmentRegister}
 use Rattle.storage_unit.specs.declared.model.Reach.{Reach}
@@ -39,6 +39,10 @@ keys_without pool keys page = option_map_or (λ frame. slice_set keys frame None
 -- the first so many pages of a segment
 abbrev pub first_keys : (segment count : ℕ) → List (Option Key)
 first_keys segment count = map (λ index. Some (key_to segment index)) (range_with_len 0 count)
+
+-- a table with these keys from a frame on
+abbrev pub with_keys : Placed → (first : ℕ) → List (Option Key) → Placed
+with_keys table first keys = record table { keys = overlaid table.keys first keys }
 
 -- the table of a unit
 abbrev pub table_of : Reach → Placed

@@ -6,9 +6,9 @@ use Rattle.storage_unit.specs.declared.model.Reach.{Reach}
 use Rattle.storage_unit.specs.Places.{on, place_of, place_at}
 use Rattle.storage_unit.specs.Bytes.{byte_shown}
 
--- a state with another pool
-abbrev pub with_pool : Reach → Pool → Reach
-with_pool state pool = record state { pool = pool }
+-- a state with what becomes of its pool
+abbrev pub over_pool : Reach → (Pool → Pool) → Reach
+over_pool state becomes = record state { pool = becomes state.pool }
 
 -- the seat that is selected
 abbrev pub seat_of : Reach → ℕ

@@ -28,6 +28,12 @@ pub record Lies (state : Reach) (at : Virtual) (count : ℕ) : Type 0 where
 abbrev pub AreThere : Reach → Virtual → (count : ℕ) → Type 0
 AreThere state first count = (past : ℕ) → past < count → is_there state (on (place_of state.directory first) past) ≡ true
 
+-- some bytes from a byte on may be copied, and written over: they lie so, and are in frames
+pub record CanReach (state : Reach) (first : Virtual) (count : ℕ) : Type 0 where
+  pub some : 0 < count
+  pub lies : Lies state first count
+  pub there : AreThere state first count
+
 -- so many bytes from a place on, as they are shown
 abbrev pub bytes_shown : Reach → Located → (count : ℕ) → List ℕ
 bytes_shown state first count = map (λ past. byte_of state (on first past)) (range_with_len 0 count)

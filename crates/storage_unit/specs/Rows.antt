@@ -1,6 +1,6 @@
 -- An attempt over the unit, beside the row of the plain machine on one list of bytes of the store.
 use Rattle.std.specs.Prelude.{◌≢◌, ◌≡◌, ℕ, ◌+◌, ◌<◌, ◌≤◌, ◌||◌, Bool, true, false, List, [], ◌∷◌, ◌++◌, length}
-use Rattle.storage_unit.specs.Below.{Access, byte_count, Commit, halfword_of, has, Lines, lines_of_access, On, page_of_line, plan, Pool, row, seen_in, touched, Tried, tried}
+use Rattle.storage_unit.specs.Below.{Access, byte_count, Commit, halfword_of, has, IsOfFewBytes, Lines, lines_of_access, On, page_of_line, plan, Pool, row, seen_in, touched, Tried, tried}
 use Rattle.flat_machine.specs.declared.machine.Plain.{Plain}
 use Rattle.flat_machine.specs.declared.machine.Program.{Program}
 use Rattle.flat_machine.specs.Row.{Check}
@@ -8,8 +8,10 @@ use Rattle.romp_cpu.specs.declared.cpu.Attempt.{Attempt}
 use Rattle.romp_cpu.specs.declared.cpu.Cpu.{Cpu}
 use Rattle.romp_cpu.specs.Segments.{registers_of_program}
 use Rattle.storage_unit.specs.declared.model.Reach.{Reach}
+use Rattle.storage_unit.specs.declared.unit.Unit.{Unit}
 use Rattle.storage_unit.specs.Places.{private_segment}
 use Rattle.storage_unit.specs.Reach.{seat_of, is_refused, answer_to, byte_at, stored}
+use Rattle.storage_unit.specs.View.{reach_of}
 use Rattle.storage_unit.specs.Bytes.{bytes_over, private_bytes, is_line_marked, IsClean}
 
 -- the plain state of a processor over a unit and these committed bytes, that printed these bytes
@@ -103,3 +105,12 @@ StaysClean old new =
 abbrev pub LeavesSeats : (old new : Reach) → Type 0
 LeavesSeats old new =
     (seat : ℕ) → seat < 16 → (seat + 1 ≢ old.runner) → private_bytes new.pool seat ≡ private_bytes old.pool seat
+
+-- What a step of a processor over a unit comes to, where it went so.
+pub record StepsOver (old new : Unit) (before after : Cpu) (attempt : Attempt) : Type 0 where
+  pub tried : record { attempt = attempt; cpu = after; state = reach_of new } ≡ tried_over (reach_of old) before
+  pub row : GivesRows attempt before after (reach_of old) (reach_of new)
+  pub kept : ChangesBytes (reach_of old) (reach_of new)
+  pub clean : StaysClean (reach_of old) (reach_of new)
+  pub seats : LeavesSeats (reach_of old) (reach_of new)
+  pub few : IsOfFewBytes attempt

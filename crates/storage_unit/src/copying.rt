@@ -1,9 +1,9 @@
 // Bytes of frames that are copied, and written over.
 ghost use Rattle.std.specs.Prelude.{◌≡◌, ◌+◌, ◌<◌, ◌≤◌, length, Ok, Some, true, false, IfSome};
-ghost use Rattle.storage_unit.specs.Below.{access_to, page_bytes, stored_bytes};
+ghost use Rattle.storage_unit.specs.Below.{access_to, FitsRegisters, page_bytes, stored_bytes};
 ghost use Rattle.flat_machine.specs.Access.{FitsFrom};
 ghost use Rattle.storage_unit.specs.Reach.{begins_at, put_from};
-ghost use Rattle.storage_unit.specs.Reached.{AreThere, Lies, shown_from};
+ghost use Rattle.storage_unit.specs.Reached.{CanReach, Lies, shown_from};
 ghost use Rattle.storage_unit.specs.Held.{frame_found};
 ghost use Rattle.storage_unit.specs.Accesses.{IsRead, IsReadIf, IsWritten, IsWrittenIf, loaded, saved};
 ghost use Rattle.storage_unit.specs.OpenLines.{IsOpenFrom};
@@ -31,9 +31,7 @@ impl Unit {
     /// Copies some bytes that lie in frames; those of one page at once.
     #[inline(always)]
     pub(super) fn copy(&self, first: Virtual, into: &mut [u8])
-        requires some { 0 < length into.old }
-        requires lies { Lies (reach_of self.now) first (length into.old) }
-        requires there { AreThere (reach_of self.now) first (length into.old) }
+        requires { CanReach (reach_of self.now) first (length into.old) }
         ensures { into.new ≡ shown_from (reach_of self.now) first (length into.old) }
     {
         if into.len() <= usize::from(self.rest(first)) {
@@ -45,9 +43,7 @@ impl Unit {
 
     /// The same page by page.
     fn copy_parts(&self, first: Virtual, into: &mut [u8])
-        requires some { 0 < length into.old }
-        requires lies { Lies (reach_of self.now) first (length into.old) }
-        requires there { AreThere (reach_of self.now) first (length into.old) }
+        requires { CanReach (reach_of self.now) first (length into.old) }
         ensures { into.new ≡ shown_from (reach_of self.now) first (length into.old) }
     {
         let rest = usize::from(self.rest(first));
@@ -63,10 +59,8 @@ impl Unit {
     /// Copies some bytes of one page that is in a frame.
     #[inline(always)]
     fn copy_part(&self, first: Virtual, into: &mut [u8])
-        requires some { 0 < length into.old }
         requires within { first.byte + length into.old ≤ page_bytes (reach_of self.now).directory.page }
-        requires lies { Lies (reach_of self.now) first (length into.old) }
-        requires there { AreThere (reach_of self.now) first (length into.old) }
+        requires can { CanReach (reach_of self.now) first (length into.old) }
         ensures { into.new ≡ shown_from (reach_of self.now) first (length into.old) }
     {
         if let Some(frame) = self.frame_at(first) {
@@ -77,9 +71,7 @@ impl Unit {
     /// Writes some bytes over those from a byte on, which lie in frames; those of one page at once.
     #[inline(always)]
     pub(super) fn put(&mut self, first: Virtual, from: &[u8])
-        requires some { 0 < length from.now }
-        requires lies { Lies (reach_of self.old) first (length from.now) }
-        requires there { AreThere (reach_of self.old) first (length from.now) }
+        requires { CanReach (reach_of self.old) first (length from.now) }
         ensures { reach_of self.new ≡ put_from (reach_of self.old) first from.now }
     {
         if from.len() <= usize::from(self.rest(first)) {
@@ -91,9 +83,7 @@ impl Unit {
 
     /// The same page by page.
     fn put_parts(&mut self, first: Virtual, from: &[u8])
-        requires some { 0 < length from.now }
-        requires lies { Lies (reach_of self.old) first (length from.now) }
-        requires there { AreThere (reach_of self.old) first (length from.now) }
+        requires { CanReach (reach_of self.old) first (length from.now) }
         ensures { reach_of self.new ≡ put_from (reach_of self.old) first from.now }
     {
         let rest = usize::from(self.rest(first));
@@ -109,10 +99,8 @@ impl Unit {
     /// Writes some bytes over those of one page, which is in a frame.
     #[inline(always)]
     fn put_part(&mut self, first: Virtual, from: &[u8])
-        requires some { 0 < length from.now }
         requires within { first.byte + length from.now ≤ page_bytes (reach_of self.old).directory.page }
-        requires lies { Lies (reach_of self.old) first (length from.now) }
-        requires there { AreThere (reach_of self.old) first (length from.now) }
+        requires can { CanReach (reach_of self.old) first (length from.now) }
         ensures { reach_of self.new ≡ put_from (reach_of self.old) first from.now }
     {
         if let Some(frame) = self.frame_at(first) {
@@ -162,8 +150,7 @@ impl Unit {
     /// Writes the bytes of registers over those of a line that is known, which are marked.
     #[inline(always)]
     fn gather_over(&mut self, line: OpenLine, wants: &Access, from: u8, regs: &[u32; 16])
-        requires stores { wants.now.store ≡ true }
-        requires fits { FitsFrom wants.now.bytes from }
+        requires wants { FitsRegisters wants.now true from }
         requires lies { Lies (reach_of self.old) line.first wants.now.bytes }
         requires open { IsOpenFrom (reach_of self.old) wants.now line }
         ensures { reach_of self.new ≡ saved (reach_of self.old) wants.now from regs.now }
@@ -189,10 +176,9 @@ impl Unit {
         from: u8,
         regs: &[u32; 16],
     ) -> bool
-        requires stores { wants.now.store ≡ true }
-        requires fits { FitsFrom wants.now.bytes from }
+        requires wants { FitsRegisters wants.now true from }
         requires open { IfSome line (IsOpenFrom (reach_of self.old) wants.now) }
-        ensures { IsWrittenIf result (reach_of self.old) (reach_of self.new) wants.now from regs.now }
+        ensures { IsWrittenIf result self.old self.new wants.now from regs.now }
     {
         match line {
             None => false,
@@ -216,7 +202,7 @@ impl Unit {
         requires fits { FitsFrom wants.now.bytes to }
         requires located { begins_at (reach_of self.old) wants.now ≡ Ok first }
         requires within { first.byte + wants.now.bytes ≤ page_bytes (reach_of self.old).directory.page }
-        ensures { IsRead (reach_of self.old) (reach_of self.new) wants.now to sign regs.old regs.new result }
+        ensures { IsRead self.old self.new wants.now to sign regs.old regs.new result }
     {
         match self.open(wants, first) {
             Ok(frame) => {
@@ -240,7 +226,7 @@ impl Unit {
         requires fits { FitsFrom wants.now.bytes from }
         requires located { begins_at (reach_of self.old) wants.now ≡ Ok first }
         requires within { first.byte + wants.now.bytes ≤ page_bytes (reach_of self.old).directory.page }
-        ensures { IsWritten (reach_of self.old) (reach_of self.new) wants.now from regs.now result }
+        ensures { IsWritten self.old self.new wants.now from regs.now result }
     {
         match self.frame_for(first, wants.bytes, wants.store) {
             Ok(frame) => {
@@ -263,7 +249,7 @@ impl Unit {
         regs: &mut [u32; 16],
     ) -> bool
         requires fits { FitsFrom bytes to }
-        ensures { IsReadIf result (reach_of self.now) (access_to address bytes false) to sign regs.old regs.new }
+        ensures { IsReadIf result self.now (access_to address bytes false) to sign regs.old regs.new }
     {
         let wants = Access {
             address,
@@ -287,7 +273,7 @@ impl Unit {
         regs: &[u32; 16],
     ) -> bool
         requires fits { FitsFrom bytes from }
-        ensures { IsWrittenIf result (reach_of self.old) (reach_of self.new) (access_to address bytes true) from regs.now }
+        ensures { IsWrittenIf result self.old self.new (access_to address bytes true) from regs.now }
     {
         let wants = Access {
             address,
@@ -309,7 +295,7 @@ impl Unit {
         regs: &mut [u32; 16],
     ) -> bool
         requires fits { FitsFrom bytes to }
-        ensures { IsReadIf result (reach_of self.now) (access_to address bytes false) to sign regs.old regs.new }
+        ensures { IsReadIf result self.now (access_to address bytes false) to sign regs.old regs.new }
     {
         let wants = Access {
             address,
@@ -333,7 +319,7 @@ impl Unit {
         regs: &[u32; 16],
     ) -> bool
         requires fits { FitsFrom bytes from }
-        ensures { IsWrittenIf result (reach_of self.old) (reach_of self.new) (access_to address bytes true) from regs.now }
+        ensures { IsWrittenIf result self.old self.new (access_to address bytes true) from regs.now }
     {
         let wants = Access {
             address,

@@ -1,6 +1,6 @@
 // A page that comes in from a store that is read elsewhere.
-ghost use Rattle.std.specs.Prelude.{◌≡◌, ◌<◌, ◌⊎◌, ℕ, List, false, length, IsOk, OnOk, OnErr};
-ghost use Rattle.storage_unit.specs.Below.{has, marks_at, page_bytes, page_count, range_with_len};
+ghost use Rattle.std.specs.Prelude.{◌≡◌, ◌<◌, ℕ, List, false, length, OnOk, OnErr};
+ghost use Rattle.storage_unit.specs.Below.{has, page_bytes, page_count};
 
 use super::unit::Unit;
 
@@ -30,7 +30,7 @@ pub trait Pages<W> {
 }
 
 impl Unit {
-    ghost use Rattle.storage_unit.specs.Incoming.{IsFilled, IsKept, HasGoneOut};
+    ghost use Rattle.storage_unit.specs.Incoming.{BringsIn};
     ghost use Rattle.storage_unit.specs.View.{reach_of};
 
     /// Brings in a page that isn't resident, as the pool does, with the bytes that are read of it, and its kept lines over
@@ -50,11 +50,7 @@ impl Unit {
         requires page { page < page_count (reach_of self.old).directory }
         requires absent { has (reach_of self.old).pool.resident page ≡ false }
         requires can_read { P.can_read pages.now outside.old page (page_bytes (reach_of self.old).directory.page) }
-        ensures rest { reach_of self.new ≡ record (reach_of self.old) { pool = (reach_of self.new).pool } }
-        ensures came { OnOk result (((bytes : List ℕ) × P.read pages.now outside.old page bytes outside.new × IsFilled (reach_of self.old) page keep bytes (reach_of self.new).pool) ⊎ ((outside.new ≡ outside.old) × IsKept (reach_of self.old) page keep (reach_of self.new).pool)) }
-        ensures kept { marks_at (reach_of self.old).pool page ≡ range_with_len 0 16 → IsOk result × (outside.new ≡ outside.old) }
-        ensures unread { OnErr result (P.unread outside.old outside.new) }
-        ensures out { OnErr result (HasGoneOut (reach_of self.old) page keep (reach_of self.new).pool) }
+        ensures { BringsIn P.Pages pages.now outside.old outside.new self.old self.new page keep result }
     {
         let slot = self.bring(page, keep);
         if self.pool.written(page).bits() == u16::MAX {

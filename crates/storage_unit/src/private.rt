@@ -1,7 +1,7 @@
 // The private storage of sixteen seats, and which of them is selected.
 ghost use Rattle.std.specs.Prelude.{◌≡◌, ℕ, List, None, ◌+◌, ◌<◌, ◌≤◌, ◌-◌, ◌++◌, false, true, length, slice_index, slice_index_or, replicate};
-ghost use Rattle.storage_unit.specs.Below.{IsOfTable, key_in, key_to, look_up, overlaid, Pair};
-ghost use Rattle.storage_unit.specs.Held.{AreReached, first_keys};
+ghost use Rattle.storage_unit.specs.Below.{IsOfTable, key_in, key_to, look_up, Pair};
+ghost use Rattle.storage_unit.specs.Held.{AreReached, first_keys, with_keys};
 
 use super::rows::forget_unless;
 use super::serving::clear_frame;
@@ -81,7 +81,7 @@ fn enter_pages(table: &mut Table, first: u16, count: u16, segment: u16)
     requires room { first + count ≤ length table.old.keys }
     requires free { (index : ℕ) → index < count → key_in table.old.keys (first + index) ≡ None }
     requires absent { (page : ℕ) → page < count → look_up table.old.keys (key_to segment page) ≡ None }
-    ensures table { table.new ≡ record table.old { keys = overlaid table.old.keys first (first_keys segment count) } }
+    ensures table { table.new ≡ with_keys table.old first (first_keys segment count) }
     ensures of_table { (classes : List (List Pair)) → IsOfTable classes table.old.keys → IsOfTable classes table.new.keys }
 {
     for index in 0..count {
@@ -95,7 +95,7 @@ fn leave_pages(table: &mut Table, buffer: &mut Tlb, first: u16, count: u16)
     requires pages { count ≤ 8 }
     requires room { first + count ≤ length table.old.keys }
     requires of_table { IsOfTable buffer.old table.old.keys }
-    ensures table { table.new ≡ record table.old { keys = overlaid table.old.keys first (replicate count None) } }
+    ensures table { table.new ≡ with_keys table.old first (replicate count None) }
     ensures of_table { IsOfTable buffer.new table.new.keys }
 {
     for index in 0..count {

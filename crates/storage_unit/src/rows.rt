@@ -16,7 +16,7 @@ use ready_rows::ReadyRows;
 pub(super) fn drop_rows(rows: &mut ReadyRows, page: PageSize, first: Virtual, bytes: u32)
     requires few { offset_of page first ≤ 2 ^ 22 }
     requires within { is_private first.segment ≡ true → offset_of page first + bytes ≤ 16384 }
-    ensures { (address : ℕ) → known rows.new address ≡ after_store page first bytes address (known rows.old address) }
+    ensures { (at : ℕ) → known rows.new at ≡ after_store page first bytes at (known rows.old at) }
 {
     if first.segment >= PRIVATE {
         rows.drop_at(offset_of(page, first), bytes);
@@ -26,7 +26,7 @@ pub(super) fn drop_rows(rows: &mut ReadyRows, page: PageSize, first: Virtual, by
 /// No line is known any more, and no row, unless they stay.
 pub(super) fn forget_unless(rows: &mut ReadyRows, lines: &mut OpenLines, stay: bool)
     ensures lines { KnowsNothing lines.new }
-    ensures rows { (address : ℕ) → known rows.new address ≡ (if stay then known rows.old address else None) }
+    ensures rows { (at : ℕ) → known rows.new at ≡ (if stay then known rows.old at else None) }
 {
     lines.forget();
     if !stay {

@@ -3,7 +3,7 @@ ghost use Rattle.std.specs.Prelude.{◌≡◌, ℕ, ◌<◌, ◌≤◌, false, l
 ghost use Rattle.storage_unit.specs.Below.{Brought, emptied, frame_at, frame_count, has, IsOfTable, KnowsNothing, laid, look_up, option_map_or, page_count, page_out, settled, undone, without_frame};
 ghost use Rattle.storage_unit.specs.Held.{keys_without};
 ghost use Rattle.storage_unit.specs.Places.{key_among};
-ghost use Rattle.storage_unit.specs.Reach.{with_pool};
+ghost use Rattle.storage_unit.specs.Reach.{over_pool};
 ghost use Rattle.storage_unit.specs.Served.{granted, released};
 
 use super::unit::Unit;
@@ -43,7 +43,7 @@ impl Unit {
     #[inline(always)]
     pub(crate) fn lay_kept(&mut self, page: u16)
         requires { page < page_count (reach_of self.old).directory }
-        ensures { reach_of self.new ≡ with_pool (reach_of self.old) (laid (reach_of self.old).pool page) }
+        ensures { reach_of self.new ≡ over_pool (reach_of self.old) (λ pool. laid pool page) }
     {
         self.pool.lay_kept(page);
     }
@@ -51,7 +51,7 @@ impl Unit {
     /// Lines of a page are no longer marked. No line is known any more.
     pub fn settle(&mut self, page: u16, lines: LineSet)
         requires { page < page_count (reach_of self.old).directory }
-        ensures { let old = reach_of self.old in reach_of self.new ≡ with_pool old (settled old.pool page lines) }
+        ensures { reach_of self.new ≡ over_pool (reach_of self.old) (λ pool. settled pool page lines) }
     {
         let known = &mut self.lines;
         known.forget();
@@ -61,7 +61,7 @@ impl Unit {
     /// A page leaves its frame, if it is in one, and these of its lines are forgotten.
     pub fn undo(&mut self, page: u16, lines: LineSet)
         requires { page < page_count (reach_of self.old).directory }
-        ensures { let old = reach_of self.old in reach_of self.new ≡ with_pool old (undone old.pool page lines) }
+        ensures { reach_of self.new ≡ over_pool (reach_of self.old) (λ pool. undone pool page lines) }
     {
         leave_frame(
             &self.pool,
@@ -75,7 +75,7 @@ impl Unit {
 
     /// All pages leave their frames. Their marked lines are kept.
     pub fn empty(&mut self)
-        ensures { reach_of self.new ≡ with_pool (reach_of self.old) (emptied (reach_of self.old).pool) }
+        ensures { reach_of self.new ≡ over_pool (reach_of self.old) emptied }
     {
         leave_all(&self.pool, &mut self.table);
         self.buffer = Tlb::new();

@@ -1,10 +1,9 @@
 // The unit as a storage.
 ghost use Rattle.std.specs.Prelude.{◌≡◌, ◌+◌, ◌≤◌, true, false, IfSome};
-ghost use Rattle.storage_unit.specs.Below.{at, how_went, IsOfFewBytes};
+ghost use Rattle.storage_unit.specs.Below.{at, FitsRegisters, how_went};
 ghost use Rattle.storage_unit.specs.ReadyRows.{IsMadeOf};
-ghost use Rattle.flat_machine.specs.Access.{FitsFrom};
 ghost use Rattle.storage_unit.specs.Reach.{is_in_frame, refuses};
-ghost use Rattle.storage_unit.specs.Rows.{tried_over, GivesRows, ChangesBytes, StaysClean, LeavesSeats};
+ghost use Rattle.storage_unit.specs.Rows.{StepsOver};
 ghost use Rattle.storage_unit.specs.Accesses.{IsRead, IsWritten};
 
 use super::model::Reach;
@@ -143,9 +142,8 @@ impl Unit {
     /// Fills registers with bytes, as they are probed and loaded.
     #[inline(always)]
     fn read_any(&mut self, wants: &Access, to: u8, sign: bool, regs: &mut [u32; 16]) -> Probe
-        requires loads { wants.now.store ≡ false }
-        requires fits { FitsFrom wants.now.bytes to }
-        ensures { IsRead (reach_of self.old) (reach_of self.new) wants.now to sign regs.old regs.new result }
+        requires { FitsRegisters wants.now false to }
+        ensures { IsRead self.old self.new wants.now to sign regs.old regs.new result }
     {
         let bytes = u32::from(wants.bytes);
         match self.registers.locate(wants.address, bytes, wants.store) {
@@ -162,9 +160,8 @@ impl Unit {
     /// Writes the bytes of registers, as they are probed and stored.
     #[inline(always)]
     fn write_any(&mut self, wants: &Access, from: u8, regs: &[u32; 16]) -> Probe
-        requires stores { wants.now.store ≡ true }
-        requires fits { FitsFrom wants.now.bytes from }
-        ensures { IsWritten (reach_of self.old) (reach_of self.new) wants.now from regs.now result }
+        requires { FitsRegisters wants.now true from }
+        ensures { IsWritten self.old self.new wants.now from regs.now result }
     {
         let bytes = u32::from(wants.bytes);
         match self.registers.locate(wants.address, bytes, wants.store) {
@@ -182,9 +179,8 @@ impl Unit {
     #[inline(never)]
     #[tactic(auto, using(std::proofs::lemmas::Bool::Decides::nat_tests))]
     fn read_apart(&mut self, wants: &Access, to: u8, sign: bool, regs: &mut [u32; 16]) -> Probe
-        requires loads { wants.now.store ≡ false }
-        requires fits { FitsFrom wants.now.bytes to }
-        ensures { IsRead (reach_of self.old) (reach_of self.new) wants.now to sign regs.old regs.new result }
+        requires { FitsRegisters wants.now false to }
+        ensures { IsRead self.old self.new wants.now to sign regs.old regs.new result }
     {
         let probe = self.probe(wants);
         if let Probe::Permitted = probe {
@@ -199,9 +195,8 @@ impl Unit {
     /// Writes the bytes of registers over those of two pages, as they are probed and stored.
     #[inline(never)]
     fn write_apart(&mut self, wants: &Access, from: u8, regs: &[u32; 16]) -> Probe
-        requires stores { wants.now.store ≡ true }
-        requires fits { FitsFrom wants.now.bytes from }
-        ensures { IsWritten (reach_of self.old) (reach_of self.new) wants.now from regs.now result }
+        requires { FitsRegisters wants.now true from }
+        ensures { IsWritten self.old self.new wants.now from regs.now result }
     {
         let probe = self.probe(wants);
         if let Probe::Permitted = probe {
@@ -219,12 +214,7 @@ impl Unit {
     /// True: it went at once. Else `went` says how.
     #[inline(always)]
     pub fn step(&mut self, cpu: &mut Cpu, iar: &mut u32, went: &mut Attempt) -> bool
-        ensures tried { record { attempt = how_went result went.new; cpu = at cpu.new iar.new; state = reach_of self.new } ≡ tried_over (reach_of self.old) (at cpu.old iar.old) }
-        ensures row { GivesRows (how_went result went.new) (at cpu.old iar.old) (at cpu.new iar.new) (reach_of self.old) (reach_of self.new) }
-        ensures kept { ChangesBytes (reach_of self.old) (reach_of self.new) }
-        ensures clean { StaysClean (reach_of self.old) (reach_of self.new) }
-        ensures seats { LeavesSeats (reach_of self.old) (reach_of self.new) }
-        ensures few { IsOfFewBytes (how_went result went.new) }
+        ensures { StepsOver self.old self.new (at cpu.old iar.old) (at cpu.new iar.new) (how_went result went.new) }
     {
         cpu.step(self, iar, went)
     }

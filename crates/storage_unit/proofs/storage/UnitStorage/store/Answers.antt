@@ -1,11 +1,10 @@
 use Rattle.storage_unit.proofs.Lemmas.{true, length, sym, ◌∙◌, ap, answer_in, bytes_from, Reach, place_of, byte_at, is_in_frame, refuses, reach_of, arith, common_steps, begins, shows, others-stay, answers-stay, unit-sound}
 use Rattle.storage_unit.proofs.storage.UnitStorage.store.Goals as goal
 
-pub put-requires-clause-lies : goal.put-requires-clause-lies
-put-requires-clause-lies c = (begins (reach_of c.args.self.now) (unit-sound c.args.self.now) c.args.address (length c.args.from.now) true c.in-Ok.first c.requires (sym c.locate.ensures ∙ c.in-Ok.is)).lies
-
-pub put-requires-clause-there : goal.put-requires-clause-there
-put-requires-clause-there c = (begins (reach_of c.args.self.now) (unit-sound c.args.self.now) c.args.address (length c.args.from.now) true c.in-Ok.first c.requires (sym c.locate.ensures ∙ c.in-Ok.is)).there
+pub put-requires : goal.put-requires
+put-requires c =
+    let b = begins (reach_of c.args.self.now) (unit-sound c.args.self.now) c.args.address (length c.args.from.now) true c.in-Ok.first c.requires (sym c.locate.ensures ∙ c.in-Ok.is) in
+    record { some = grind (arith, common_steps); lies = b.lies; there = b.there }
 
 pub returns-in-Ok-clause-shows : goal.returns-in-Ok-clause-shows
 returns-in-Ok-clause-shows c =

@@ -19,7 +19,7 @@ copy_parts-requires t c =
     let rest = c.from-rest.result in
     let both = behind (reach_of c.args.self.now) c.args.first c.past.result rest m n c.past.ensures
     (omega (arith, split.front_len, split.back_len, c.if-into-rest.false)) c.requires.lies c.requires.there in
-    (omega (arith, split.back_len, c.decreases, c.if-into-rest.false, c.from-rest.ensures, c.rest.ensures, c.requires.lies.within), (omega (arith, split.back_len, c.if-into-rest.false), (both.0, both.1)))
+    (omega (arith, split.back_len, c.decreases, c.if-into-rest.false, c.from-rest.ensures, c.rest.ensures, c.requires.lies.within), record { some = omega (arith, split.back_len, c.if-into-rest.false); lies = both.0; there = both.1 })
 
 pub returns-else-into-rest : goal.returns-else-into-rest
 returns-else-into-rest t c =
@@ -30,5 +30,5 @@ returns-else-into-rest t c =
     c.copy_part-else-into-rest.new.into c.copy_parts.new.into c.past.ensures (omega (arith, split.back_len, c.if-into-rest.false))
     (c.copy_part-else-into-rest.ensures ∙ ap (bytes_shown state (place_of state.directory c.args.first)) split.front_len) c.copy_parts.ensures
 
-pub copy_part-requires-else-into-rest-clause-lies : goal.copy_part-requires-else-into-rest-clause-lies
-copy_part-requires-else-into-rest-clause-lies t c = grind (arith, common_steps)
+pub copy_part-requires-else-into-rest-clause-can : goal.copy_part-requires-else-into-rest-clause-can
+copy_part-requires-else-into-rest-clause-can t c = record { some = grind (arith, common_steps); lies = grind (arith, common_steps); there = grind (arith, common_steps) }

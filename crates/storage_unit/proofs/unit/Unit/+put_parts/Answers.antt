@@ -31,7 +31,7 @@ put_parts-requires t c =
     let long : length (take (n - rest) (drop rest from)) ≡ n - rest = ap length (left from rest (omega (arith, c.if-from-rest.false))) ∙ length-drop rest from in
     let both = behind state (reach_of c.put_part-else-from-rest.new.self) c.args.first c.past-next.result (place_of state.directory c.args.first) _ rest (length (take (n - rest) (drop rest from))) n
     c.put_part-else-from-rest.ensures c.past-next.ensures (omega (arith, long, c.if-from-rest.false)) c.requires.lies c.requires.there in
-    (omega (arith, long, c.decreases, c.if-from-rest.false, c.from-rest.ensures, c.rest.ensures, c.requires.lies.within), (omega (arith, long, c.if-from-rest.false), (both.0, both.1)))
+    (omega (arith, long, c.decreases, c.if-from-rest.false, c.from-rest.ensures, c.rest.ensures, c.requires.lies.within), record { some = omega (arith, long, c.if-from-rest.false); lies = both.0; there = both.1 })
 
 pub returns-else-from-rest : goal.returns-else-from-rest
 returns-else-from-rest t c =
@@ -46,8 +46,5 @@ returns-else-from-rest t c =
     c.requires.lies c.past-next.ensures c.put_part-else-from-rest.ensures
     (c.put_parts.ensures ∙ ap (put_at (reach_of c.put_part-else-from-rest.new.self) (place_of c.put_part-else-from-rest.new.self.directory c.past-next.result)) (left from rest (omega (arith, less))))
 
-pub put_part-requires-else-from-rest-clause-lies : goal.put_part-requires-else-from-rest-clause-lies
-put_part-requires-else-from-rest-clause-lies t c = grind (arith, common_steps)
-
-pub put_part-requires-else-from-rest-clause-there : goal.put_part-requires-else-from-rest-clause-there
-put_part-requires-else-from-rest-clause-there t c = grind (arith, common_steps)
+pub put_part-requires-else-from-rest-clause-can : goal.put_part-requires-else-from-rest-clause-can
+put_part-requires-else-from-rest-clause-can t c = record { some = grind (arith, common_steps); lies = grind (arith, common_steps); there = grind (arith, common_steps) }

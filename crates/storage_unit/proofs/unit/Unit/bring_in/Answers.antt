@@ -3,31 +3,41 @@ use Rattle.storage_unit.proofs.Common.{subst, refl, sym, ◌∙◌, ap, inl, inr
 use Rattle.storage_unit.proofs.IncomingLemmas.{is-filled, is-kept, all-marked, has-gone-out, still-ready, still-clear, lent-long}
 use Rattle.storage_unit.proofs.unit.Unit.bring_in.Goals as goal
 
-pub returns-then-bits-clause-came : goal.returns-then-bits-clause-came
-returns-then-bits-clause-came g c =
-    inr (
-      refl,
-      is-kept c.args.self.now c.bring-slot.new.self c.args.page c.args.keep c.bring-slot.result.frame _ c.bring-slot.ensures.brought c.bring-slot.ensures.rest refl c.lay_kept.new.self c.lay_kept.ensures
-          (sym all-lines ∙ ap lines_of_bits (sym c.if-bits.true) ∙ c.bits.ensures ∙ c.written.ensures) c.requires.page,
-    )
+pub returns-then-bits : goal.returns-then-bits
+returns-then-bits g c = record {
+  rest = grind (arith, nat_tests);
+  kept = λ all. (refl, refl);
+  unread = tt;
+  out = tt;
+  came = inr (
+    refl,
+    is-kept c.args.self.now c.bring-slot.new.self c.args.page c.args.keep c.bring-slot.result.frame _ c.bring-slot.ensures.brought c.bring-slot.ensures.rest refl c.lay_kept.new.self c.lay_kept.ensures
+        (sym all-lines ∙ ap lines_of_bits (sym c.if-bits.true) ∙ c.bits.ensures ∙ c.written.ensures) c.requires.page,
+  );
+}
 
-pub returns-in-Ok-clause-came : goal.returns-in-Ok-clause-came
-returns-in-Ok-clause-came g c = inl (
-  c.read_page-read.new.into,
-  c.in-Ok.ensures.read,
-  is-filled c.args.self.now c.bring-slot.new.self c.args.page c.args.keep c.bring-slot.result.frame c.page_mut.result.now c.bring-slot.ensures.brought c.bring-slot.ensures.rest c.page_mut.ensures.value c.read_page-read.new.into c.lay_kept-2.new.self c.read_page-read.auto.into c.lay_kept-2.ensures,
-)
+pub returns-in-Ok : goal.returns-in-Ok
+returns-in-Ok g c = record {
+  rest = grind (arith, nat_tests);
+  unread = tt;
+  out = tt;
+  kept = λ all. absurd (c.if-bits.false (all-marked c.args.self.now c.bring-slot.new.self c.args.page c.args.keep c.bring-slot.result.frame c.bring-slot.ensures.brought c.bits.result c.bits.type_inv (c.bits.ensures ∙ c.written.ensures) all));
+  came = inl (
+    c.read_page-read.new.into,
+    c.in-Ok.ensures.read,
+    is-filled c.args.self.now c.bring-slot.new.self c.args.page c.args.keep c.bring-slot.result.frame c.page_mut.result.now c.bring-slot.ensures.brought c.bring-slot.ensures.rest c.page_mut.ensures.value c.read_page-read.new.into c.lay_kept-2.new.self c.read_page-read.auto.into c.lay_kept-2.ensures,
+  );
+}
 
-pub returns-in-Err-clause-out : goal.returns-in-Err-clause-out
-returns-in-Err-clause-out g c =
-    has-gone-out c.args.self.now c.bring-slot.new.self c.args.page c.args.keep c.bring-slot.result.frame c.page_mut.result.now c.bring-slot.ensures.brought c.bring-slot.ensures.rest c.page_mut.ensures.value
-    c.read_page-read.new.into c.lay_kept-2.new.self c.read_page-read.auto.into c.lay_kept-2.ensures c.empty.new.self c.empty.ensures
-
-pub returns-in-Ok-clause-kept : goal.returns-in-Ok-clause-kept
-returns-in-Ok-clause-kept g c = λ all. absurd (c.if-bits.false (all-marked c.args.self.now c.bring-slot.new.self c.args.page c.args.keep c.bring-slot.result.frame c.bring-slot.ensures.brought c.bits.result c.bits.type_inv (c.bits.ensures ∙ c.written.ensures) all))
-
-pub returns-in-Err-clause-kept : goal.returns-in-Err-clause-kept
-returns-in-Err-clause-kept g c = λ all. absurd (c.if-bits.false (all-marked c.args.self.now c.bring-slot.new.self c.args.page c.args.keep c.bring-slot.result.frame c.bring-slot.ensures.brought c.bits.result c.bits.type_inv (c.bits.ensures ∙ c.written.ensures) all))
+pub returns-in-Err : goal.returns-in-Err
+returns-in-Err g c = record {
+  rest = grind (arith, nat_tests);
+  came = tt;
+  unread = c.in-Err.ensures.unread;
+  kept = λ all. absurd (c.if-bits.false (all-marked c.args.self.now c.bring-slot.new.self c.args.page c.args.keep c.bring-slot.result.frame c.bring-slot.ensures.brought c.bits.result c.bits.type_inv (c.bits.ensures ∙ c.written.ensures) all));
+  out = has-gone-out c.args.self.now c.bring-slot.new.self c.args.page c.args.keep c.bring-slot.result.frame c.page_mut.result.now c.bring-slot.ensures.brought c.bring-slot.ensures.rest c.page_mut.ensures.value
+      c.read_page-read.new.into c.lay_kept-2.new.self c.read_page-read.auto.into c.lay_kept-2.ensures c.empty.new.self c.empty.ensures;
+}
 
 pub page_mut-requires : goal.page_mut-requires
 page_mut-requires g c = grind (arith, nat_tests)

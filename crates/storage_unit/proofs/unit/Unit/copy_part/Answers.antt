@@ -8,7 +8,7 @@ pub returns-in_default : goal.returns-in_default
 returns-in_default c =
     let none-of : (o : Option ℕ) → ((n : ℕ) → o ≡ Some n → ⊥) → o ≡ None = λ o some. grind (arith, nat_tests) in
     let unit = c.args.self.now in
-    absurd (found-some (reach_of unit) (unit-sound unit) c.args.first (length c.args.into.now) c.requires.some c.requires.lies c.requires.there
+    absurd (found-some (reach_of unit) (unit-sound unit) c.args.first (length c.args.into.now) c.requires.can.some c.requires.can.lies c.requires.can.there
     (sym c.frame_at.ensures ∙ (none-of c.frame_at.result c.in_default.not-Some)))
 
 pub frame_at-requires : goal.frame_at-requires

@@ -4,20 +4,20 @@ use Rattle.storage_unit.proofs.unit.Unit.gather_over.Goals.{After-gather, After-
 use Rattle.storage_unit.proofs.unit.Unit.gather_over.Goals as goal
 
 pub spot_mut-requires : goal.spot_mut-requires
-spot_mut-requires c = open-room c.args.self.now c.args.wants.now c.args.line c.requires.fits.some c.requires.open c.from.result c.from.ensures
+spot_mut-requires c = open-room c.args.self.now c.args.wants.now c.args.line c.requires.wants.fits.some c.requires.open c.from.result c.from.ensures
 
 lent : (c : After-spot_mut) → length c.spot_mut.result.now ≡ c.args.wants.now.bytes
-lent c = ap length c.spot_mut.ensures.value ∙ open-long c.args.self.now c.args.wants.now c.args.line c.requires.fits.some c.requires.open c.from.result c.from.ensures ∙ c.from.ensures
+lent c = ap length c.spot_mut.ensures.value ∙ open-long c.args.self.now c.args.wants.now c.args.line c.requires.wants.fits.some c.requires.open c.from.result c.from.ensures ∙ c.from.ensures
 
 pub gather-requires : goal.gather-requires
-gather-requires c = subst (λ n. FitsFrom n c.args.from) (sym (lent (goal.at.gather-requires c).After-spot_mut)) c.requires.fits
+gather-requires c = subst (λ n. FitsFrom n c.args.from) (sym (lent (goal.at.gather-requires c).After-spot_mut)) c.requires.wants.fits
 
 -- the bytes that are written
 written : (c : After-gather) → length c.spot_mut.result.now ≡ c.args.wants.now.bytes → c.gather.new.into ≡ stored_bytes c.args.regs.now c.args.wants.now.bytes c.args.from
 written c lent = c.gather.ensures ∙ ap (λ n. stored_bytes c.args.regs.now n c.args.from) lent
 
 long : (c : After-gather) → length c.spot_mut.result.now ≡ c.args.wants.now.bytes → length c.gather.new.into ≡ c.args.wants.now.bytes
-long c lent = ap length (written c lent) ∙ stored_bytes-long c.args.regs.now c.args.wants.now.bytes c.args.from c.told-regs c.requires.fits
+long c lent = ap length (written c lent) ∙ stored_bytes-long c.args.regs.now c.args.wants.now.bytes c.args.from c.told-regs c.requires.wants.fits
 
 pub invariant_of-self : goal.invariant_of-self
 invariant_of-self c =
@@ -34,11 +34,11 @@ invariant_of-self c =
       held = unit.held;
       remembered = unit.remembered;
       selected = unit.selected;
-      ready = ready-over unit wants line c.requires.fits.some c.requires.stores c.requires.open c.gather.new.into (long after lent) c.drop_rows.new.rows
+      ready = ready-over unit wants line c.requires.wants.fits.some c.requires.wants.kind c.requires.open c.gather.new.into (long after lent) c.drop_rows.new.rows
           (λ address. c.drop_rows.ensures address ∙ ap (λ s. after_store s line.first c.from-count.result address (known unit.rows address)) c.page-page.ensures
           ∙ ap (λ m. after_store unit.directory.page line.first m address (known unit.rows address)) c.from-count.ensures);
       opened = unit.opened;
-      clear = clear-over unit wants line c.requires.fits.some c.requires.stores c.requires.open c.gather.new.into (long after lent) c.use_bytes.new.used c.use_bytes.ensures.shared
+      clear = clear-over unit wants line c.requires.wants.fits.some c.requires.wants.kind c.requires.open c.gather.new.into (long after lent) c.use_bytes.new.used c.use_bytes.ensures.shared
           (λ own. subst (λ m. AreUsed unit.used c.use_bytes.new.used (line.first.segment - 3840) (offset_of unit.directory.page line.first + m)) c.from-count.ensures
           (subst (λ s. AreUsed unit.used c.use_bytes.new.used (line.first.segment - 3840) (offset_of s line.first + c.from-count.result)) c.page-page.ensures (c.use_bytes.ensures.private own)));
     }
@@ -49,6 +49,6 @@ returns c =
     let wants = c.args.wants.now in
     let after = (goal.at.returns c).After-gather in
     let lent = lent (goal.at.returns c).After-spot_mut in
-    stored-over unit wants c.args.line c.requires.fits.some c.requires.stores c.requires.open c.gather.new.into (long after lent)
+    stored-over unit wants c.args.line c.requires.wants.fits.some c.requires.wants.kind c.requires.open c.gather.new.into (long after lent)
     ∙ ap (put_at (reach_of unit) (place_of unit.directory c.args.line.first)) (written after lent)
-    ∙ gathered-at (reach_of unit) (unit-sound unit) wants.address wants.bytes wants.store c.args.line.first c.requires.open.opens.located c.args.regs.now c.args.from c.told-regs c.requires.fits
+    ∙ gathered-at (reach_of unit) (unit-sound unit) wants.address wants.bytes wants.store c.args.line.first c.requires.open.opens.located c.args.regs.now c.args.from c.told-regs c.requires.wants.fits

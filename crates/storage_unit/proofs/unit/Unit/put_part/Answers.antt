@@ -25,23 +25,23 @@ invariant_of-self c =
       held = unit.held ∙ sym (ap (λ (p : Pool). keys_of unit.directory unit.begun p.frames p.page_in) new ∙ marked-keys unit.directory unit.begun unit.pool frame lines);
       remembered = unit.remembered;
       selected = unit.selected;
-      ready = ready-part unit c.args.first frame c.from.result n is c.from.ensures c.requires.within c.requires.some c.requires.lies c.copy_from_slice.new.self (ap length c.copy_from_slice.ensures.after) c.drop_rows.new.rows
+      ready = ready-part unit c.args.first frame c.from.result n is c.from.ensures c.requires.within c.requires.can.some c.requires.can.lies c.copy_from_slice.new.self (ap length c.copy_from_slice.ensures.after) c.drop_rows.new.rows
           (λ address. c.drop_rows.ensures address ∙ ap (λ s. after_store s c.args.first n address (known unit.rows address)) c.page-page.ensures);
       opened = subst (λ (list : List (List ℕ)). AreOpened unit.lines unit.directory unit.table unit.registers list unit.runner) (sym (ap (λ (p : Pool). p.marked) new)) (opened-more unit frame lines);
-      clear = clear-part unit c.args.first frame c.from.result n is c.from.ensures c.requires.within c.requires.some c.requires.lies c.copy_from_slice.new.self (ap length c.copy_from_slice.ensures.after) c.use_bytes.new.used c.use_bytes.ensures.shared
+      clear = clear-part unit c.args.first frame c.from.result n is c.from.ensures c.requires.within c.requires.can.some c.requires.can.lies c.copy_from_slice.new.self (ap length c.copy_from_slice.ensures.after) c.use_bytes.new.used c.use_bytes.ensures.shared
           (λ own. subst (λ s. AreUsed unit.used c.use_bytes.new.used (c.args.first.segment - 3840) (offset_of s c.args.first + n)) c.page-page.ensures (c.use_bytes.ensures.private own));
     }
 
 pub returns-in-Some : goal.returns-in-Some
 returns-in-Some c =
     let unit = c.args.self.now in
-    stored-part unit c.args.first c.in-Some.frame c.from.result (length c.args.from.now) (sym c.frame_at.ensures ∙ c.in-Some.is) c.from.ensures c.requires.within c.requires.some c.requires.lies c.copy_from_slice.new.self (ap length c.copy_from_slice.ensures.after)
+    stored-part unit c.args.first c.in-Some.frame c.from.result (length c.args.from.now) (sym c.frame_at.ensures ∙ c.in-Some.is) c.from.ensures c.requires.within c.requires.can.some c.requires.can.lies c.copy_from_slice.new.self (ap length c.copy_from_slice.ensures.after)
     ∙ ap (put_at (reach_of unit) (place_of unit.directory c.args.first)) c.copy_from_slice.ensures.after
 
 pub returns-in_default : goal.returns-in_default
 returns-in_default c =
     let unit = c.args.self.now in
-    absurd (found-some (reach_of unit) (unit-sound unit) c.args.first (length c.args.from.now) c.requires.some c.requires.lies c.requires.there
+    absurd (found-some (reach_of unit) (unit-sound unit) c.args.first (length c.args.from.now) c.requires.can.some c.requires.can.lies c.requires.can.there
     (sym c.frame_at.ensures ∙ (none-of c.frame_at.result c.in_default.not-Some)))
 
 pub frame_at-requires : goal.frame_at-requires
