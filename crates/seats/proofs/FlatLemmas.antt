@@ -108,10 +108,7 @@ pub flat-taken :
 flat-taken pages lines [] flat within reads writes =
     flat-again pages lines (both lines (lines_wanted [])) (sym (append-nil lines.reads)) (sym (append-nil lines.writes)) flat
 flat-taken pages lines (want ∷ wants) flat within reads writes =
-    let next : Lines = record {
-      reads = lines.reads ++ flat_lines want.page want.reads;
-      writes = lines.writes ++ flat_lines want.page want.writes;
-    } in
+    let next : Lines = record { reads = lines.reads ++ flat_lines want.page want.reads; writes = lines.writes ++ flat_lines want.page want.writes } in
     let rest : IsFlat (with_wants (with_want pages want) wants) (both next (lines_wanted wants)) =
     flat-taken (with_want pages want) next wants
     (taken-one pages lines want (All-head (λ (w : Want). w.page < length pages) want wants within) flat

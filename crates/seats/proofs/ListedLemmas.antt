@@ -183,8 +183,7 @@ module _ (list : List ℕ) (ascend : Ascend list) where
 
 -- they are few
 pub all_few : (pages : List (List ℕ × List ℕ)) (written : ℕ) → IsCounted pages written → written ≤ 16 * 65535
-all_few pages written kept =
-    omega (arith, kept.counted, kept.few, sum_by-le (λ (held : List ℕ × List ℕ). length held.1) 16 pages kept.lines)
+all_few pages written kept = omega (arith, kept.counted, kept.few, sum_by-le (λ (held : List ℕ × List ℕ). length held.1) 16 pages kept.lines)
 
 -- none are held where nothing is
 pub none-counted : (count : ℕ) → count < 65536 → IsCounted (replicate count nothing) 0

@@ -82,8 +82,7 @@ module _ (seating : Seating) (is : IsSeating seating) where
 
   -- the seats at all places are those that are taken
   map-at : map (seat_at seating) (range_with_len 0 (length seating.taken)) ≡ seating.taken
-  map-at =
-      grind (arith, nat_tests, same_lists, length-map-range_with_len, get_or-map-range_with_len, get_or_default)
+  map-at = grind (arith, nat_tests, same_lists, length-map-range_with_len, get_or-map-range_with_len, get_or_default)
 
   module _ (rows : List ℕ) (long : length rows ≡ length seating.taken)
       (are : (from to : ℕ) → from < length seating.taken → to < length seating.taken → waits_in rows from to ≡ seat_waits seating (seat_at seating from) (seat_at seating to)) where

@@ -180,12 +180,10 @@ module _ (waits : ℕ → ℕ → Bool) (n : ℕ) (few : n ≤ 16) (first : ℕ)
   follows-some step last next more some = one-step step last more ∙ ap (λ (one : Option ℕ). option_map_or (follows (n - (step + 1))) one []) some
 
   pub shown-none : (leading : ℕ) → first < n → Leading leading n → is_on leading first ≡ false → None ≡ shown_cycle waits all first
-  shown-none leading small leads_by off =
-      grind (arith, nat_tests, some-on, length-range_with_len)
+  shown-none leading small leads_by off = grind (arith, nat_tests, some-on, length-range_with_len)
 
   pub shown-some : (leading : ℕ) (members : List ℕ) → first < n → Leading leading n → is_on leading first ≡ true → members ≡ first ∷ shown_after waits all n first first → Some members ≡ shown_cycle waits all first
-  shown-some leading members small leads_by on is =
-      grind (arith, nat_tests, some-on, length-range_with_len)
+  shown-some leading members small leads_by on is = grind (arith, nat_tests, some-on, length-range_with_len)
 
 -- one seat more
 seats-more : (p : ℕ → Bool) (n : ℕ) → bits_of_seats (passing (suc n) p) ≡ bits_of_seats (passing n p) + cond (p n) (2 ^ n) 0

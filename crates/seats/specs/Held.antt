@@ -40,8 +40,7 @@ with_wants pages wants = fold with_want pages wants
 -- whether what is wanted of a page conflicts with what is held of it: it writes a line that is held, or reads one that is
 -- held for writing
 abbrev pub conflicts_in : Want → List ℕ × List ℕ → Bool
-conflicts_in want held =
-    conflicts (record { reads = want.reads; writes = want.writes }) (record { reads = held.0; writes = held.1 })
+conflicts_in want held = conflicts (record { reads = want.reads; writes = want.writes }) (record { reads = held.0; writes = held.1 })
 
 -- whether that is so of some wanted page
 abbrev pub conflicts_with : List (List ℕ × List ℕ) → List Want → Bool

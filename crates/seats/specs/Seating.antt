@@ -41,8 +41,7 @@ next_seat seating = find (λ seat. not (has seating.taken seat)) (range_with_len
 
 -- nobody sits anywhere, and nothing of so many pages is held
 abbrev pub nobody_sits : (pages : ℕ) → Seating
-nobody_sits pages =
-    record { taken = []; sitters = replicate 16 (newcomer 0 0 (replicate 4 0)); holding = nothing_held pages }
+nobody_sits pages = record { taken = []; sitters = replicate 16 (newcomer 0 0 (replicate 4 0)); holding = nothing_held pages }
 
 -- another sits in a seat
 abbrev pub with_sitter : Seating → (seat : ℕ) → Seat → Seating
@@ -54,13 +53,11 @@ seated seating seat who = record (with_sitter seating seat who) { taken = seatin
 
 -- who sits in a seat leaves it, and holds nothing any more
 abbrev pub left : Seating → (seat : ℕ) → Seating
-left seating seat =
-    record seating { taken = filter (λ other. not (other == seat)) seating.taken; holding = released seating.holding seat }
+left seating seat = record seating { taken = filter (λ other. not (other == seat)) seating.taken; holding = released seating.holding seat }
 
 -- who sits in a seat has done so many rows more, and waits for nothing
 abbrev pub went_on : Seating → (seat rows : ℕ) → Seating
-went_on seating seat rows =
-    with_sitter seating seat (record (sitter seating seat) { rows = (sitter seating seat).rows + rows; waits = None })
+went_on seating seat rows = with_sitter seating seat (record (sitter seating seat) { rows = (sitter seating seat).rows + rows; waits = None })
 
 -- who sits in a seat waits for this
 abbrev pub waiting_for : Seating → (seat : ℕ) → Request → Seating

@@ -13,8 +13,7 @@ holders seating seat wants = map (number_in seating) (filter (is_in_conflict sea
 
 -- whether who sits in one seat waits for who sits in another
 abbrev pub seat_waits : Seating → (from to : ℕ) → Bool
-seat_waits seating from to =
-    option_map_or (λ request. is_in_conflict seating.holding from request.wants.items to) (sitter seating from).waits false
+seat_waits seating from to = option_map_or (λ request. is_in_conflict seating.holding from request.wants.items to) (sitter seating from).waits false
 
 -- the shown cycle of waits from a seat among those that are taken, as the numbers of the activations in it
 abbrev pub cycle_of : Seating → (seat : ℕ) → Option (List ℕ)

@@ -1,8 +1,7 @@
-ghost use Rattle.std.specs.Prelude.{◌≡◌, ◌==◌, ◌||◌, ◌&&◌, ◌<◌, ◌≤◌, ◌^◌, ℕ, nat_lt, length, find, slice_index_or};
-ghost use Rattle.std.specs.List.{list_any};
+ghost use Rattle.std.specs.Prelude.{◌≡◌, ◌<◌, ◌≤◌, length, find};
 ghost use Rattle.std.specs.Option.{option_map};
-ghost use Rattle.lines.specs.Waits.{leads, shown_cycle};
-ghost use Rattle.seats.specs.Rows.{is_on, waits_in, places, places_of};
+ghost use Rattle.lines.specs.Waits.{shown_cycle};
+ghost use Rattle.seats.specs.Rows.{AreOn, awaits_one, is_on, places, places_of, row_leads, waits_in};
 
 use arrayvec::ArrayVec;
 
@@ -42,7 +41,7 @@ pub fn shown_cycle(from: u8, waits: &[u16]) -> Option<ArrayVec<u8, 17>>
 fn leading_to(to: u8, waits: &[u16]) -> u16
     requires to { to < length waits.now }
     requires few { length waits.now ≤ 16 }
-    ensures { (place : ℕ) → place < 16 → is_on result place ≡ (nat_lt place (length waits.now) && leads (waits_in waits.now) (places_of waits.now) (length waits.now) place to) }
+    ensures { AreOn result waits.now (row_leads waits.now to) }
 {
     let mut leading = 0;
     for _step in 0..waits.len() {
@@ -58,7 +57,7 @@ fn leading_to(to: u8, waits: &[u16]) -> u16
 /// The places that wait for one of these, as bits.
 fn waiting_for(goals: u16, waits: &[u16]) -> u16
     requires { length waits.now ≤ 16 }
-    ensures { (place : ℕ) → place < 16 → is_on result place ≡ (nat_lt place (length waits.now) && list_any (λ next. waits_in waits.now place next && is_on goals next) places) }
+    ensures { AreOn result waits.now (awaits_one waits.now goals) }
 {
     let mut waiting = 0;
     for (place, row) in waits.iter().enumerate() {

@@ -1,8 +1,8 @@
 // Who waits for whom.
-ghost use Rattle.std.specs.Prelude.{◌≡◌, ◌<◌, ◌&&◌, true, ℕ, length, map, nat_lt};
+ghost use Rattle.std.specs.Prelude.{◌≡◌, ◌<◌, true, ℕ, length, map};
 ghost use Rattle.std.specs.Option.{option_map};
 ghost use Rattle.lines.specs.Sets.{has};
-ghost use Rattle.seats.specs.Rows.{is_on, waits_in};
+ghost use Rattle.seats.specs.Rows.{AreOn, is_on, waits_in};
 ghost use Rattle.seats.specs.Held.{AreWithin};
 ghost use Rattle.seats.specs.Seating.{IsSeating};
 ghost use Rattle.seats.specs.Waiting.{holders, seat_waits, cycle_of, seat_at};
@@ -75,7 +75,7 @@ impl Seats {
     fn places_awaited(&self, seat: u8) -> u16
         requires seat { seat < 16 }
         requires sound { IsSeating self.now }
-        ensures { (place : ℕ) → place < 16 → is_on result place ≡ (nat_lt place (length self.now.taken) && seat_waits self.now seat (seat_at self.now place)) }
+        ensures { AreOn result self.now.taken (λ place. seat_waits self.now seat (seat_at self.now place)) }
     {
         match &self.sitter(seat).waits {
             Some(request) => self.places_of(self.locks().conflicts(seat, request)),
@@ -85,7 +85,7 @@ impl Seats {
 
     /// The bits of the places at which seats stand whose bits are on.
     fn places_of(&self, seats: u16) -> u16
-        ensures { (place : ℕ) → place < 16 → is_on result place ≡ (nat_lt place (length self.now.taken) && is_on seats (seat_at self.now place)) }
+        ensures { AreOn result self.now.taken (λ place. is_on seats (seat_at self.now place)) }
     {
         let mut places = 0;
         for (place, seat) in self.taken().iter().enumerate() {
