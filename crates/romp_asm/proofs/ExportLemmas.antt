@@ -15,13 +15,11 @@ position-push : (test : List Statement → Bool) (n m : ℕ) (sources : List (Li
     → m ≡ n + length sources
     → position_from test n (sources ++ source ∷ []) ≡ option_or (position_from test n sources) (if test source then Some m else None)
 position-push test n m [] source is = grind (arith, nat_tests)
-position-push test n m (x ∷ sources) source is =
-    grind (arith, nat_tests, position-push test (n + 1) m sources source (omega arith))
+position-push test n m (x ∷ sources) source is = grind (arith, nat_tests, position-push test (n + 1) m sources source (omega arith))
 
 exporter-push : (sources : List (List Statement)) (source : List Statement) (word : List ℕ)
     → exporter (sources ++ source ∷ []) word ≡ option_or (exporter sources word) (if export source word then Some (length sources) else None)
-exporter-push sources source word =
-    position-push (λ those. export those word) 0 (length sources) sources source (omega arith)
+exporter-push sources source word = position-push (λ those. export those word) 0 (length sources) sources source (omega arith)
 
 -- a label is exported by a line where it is by a source
 exporter-some : (n : ℕ) (sources : List (List Statement)) (word : List ℕ) → is_some (position_from (λ those. export those word) n sources) ≡ export (flat sources) word
@@ -32,8 +30,7 @@ exporter-some n (source ∷ sources) word = grind (arith, nat_tests, list_any-ap
 fault-push : (front : List Statement) (sources : List (List Statement)) (source : List Statement) → fault_behind front (sources ++ source ∷ []) ≡ option_or (fault_behind front sources) (fault_among source (front ++ flat sources) source)
 unfolding fault_behind
 fault-push front [] source = rw (or_none, append-nil) refl
-fault-push front (x ∷ sources) source =
-    grind (arith, nat_tests, front, append_assoc, fault-push (front ++ x) sources source)
+fault-push front (x ∷ sources) source = grind (arith, nat_tests, front, append_assoc, fault-push (front ++ x) sources source)
 
 -- the fault of an export by a line, by whether its source has the label and an earlier line exports it
 abbrev pub told_by : ℕ → Bool → Bool → Option (ℕ × ℕ)
@@ -108,8 +105,7 @@ given_more before label word source none = grind (arith, nat_tests, bytes_eq-Dec
 
 -- the labels of one statement more
 pub labels_on : (source : List Statement) (i : ℕ) (one : Statement) (word : List ℕ) → i < length source → one ≡ get_or source i one → defines (take (i + 1) source) word ≡ (defines (take i source) word || is_labelled word one)
-labels_on source i one word within here =
-    rw (take_more source i one within, ← here, list_any-append) (grind (arith, nat_tests))
+labels_on source i one word within here = rw (take_more source i one within, ← here, list_any-append) (grind (arith, nat_tests))
 
 pub label_more : {V : Type 0} (found : Option V) (value : V) (here before : Bool) → is_some found ≡ before → is_some (cond here (Some value) found) ≡ (before || here)
 label_more found value here before is = grind (arith, nat_tests)
@@ -126,8 +122,7 @@ export_none (one ∷ statements) word none = grind (arith, nat_tests, none.0, ex
 fault_none : (source done statements : List Statement) → AllByRecursion (λ statement. exported statement.body ≡ None) statements → fault_among source done statements ≡ None
 unfolding fault_among
 fault_none source done [] none = refl
-fault_none source done (one ∷ statements) none =
-    grind (arith, nat_tests, none.0, fault_none source (done ++ one ∷ []) statements none.1)
+fault_none source done (one ∷ statements) none = grind (arith, nat_tests, none.0, fault_none source (done ++ one ∷ []) statements none.1)
 
 -- a source more that exports nothing
 pub exports_other : (exports : Exports) (sources : List (List Statement)) (source : List Statement) → AllByRecursion (λ statement. exported statement.body ≡ None) source → AreExports exports sources → AreExports exports (sources ++ source ∷ [])

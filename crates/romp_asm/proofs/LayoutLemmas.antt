@@ -16,8 +16,7 @@ address_same index at (x ∷ statements) word = grind (arith, nat_tests, address
 not_earlier : (bound index at : ℕ) (statements : List Statement) (word : List ℕ) → bound ≤ index → stands_before bound (place_from index at statements word) ≡ false
 unfolding place_from
 not_earlier bound index at [] word h = refl
-not_earlier bound index at (x ∷ statements) word h =
-    grind (arith, nat_tests, not_earlier bound (index + 1) (at + size_of x.body) statements word)
+not_earlier bound index at (x ∷ statements) word h = grind (arith, nat_tests, not_earlier bound (index + 1) (at + size_of x.body) statements word)
 
 -- a label stands among the first n statements where its place is before the n-th
 pub among_first : (bound index at : ℕ) (statements : List Statement) (n : ℕ) (word : List ℕ) → bound ≡ index + n → stands_before bound (place_from index at statements word) ≡ is_some (address_from at (take n statements) word)

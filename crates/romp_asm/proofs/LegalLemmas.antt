@@ -7,6 +7,7 @@ use Rattle.romp_table.specs.declared.table.Row.{Row}
 use Rattle.romp_table.specs.Legal.{HasWidths, IsLegal, IsRowOf, op_of}
 use Rattle.romp_table.specs.Rows.{row_of}
 use Rattle.asm_parse.specs.declared.form.Form.{Form}
+use Rattle.romp_asm.specs.Size.{HasSize, IsInstOf}
 
 -- a row's format and what its register fields are for
 pub record Shape : Type 0 where
@@ -67,3 +68,8 @@ legal inst form e widths fits = record {
       row_told (row_of (op_of inst)) (shape_of form) (IsRowOf inst)
       (shapes (op_of inst) ∙ ap (λ form. Some (shape_of form)) (sym e)) fits;
 }
+
+-- so is that which is made
+pub inst_made : (inst : Inst) (form : Form) (wanted : Option Inst) → Some inst ≡ wanted → HasSize form inst → form ≡ form_of (op_of inst) → HasWidths inst
+    → ((row : Row) → row_shape row ≡ shape_of form → IsRowOf inst row) → IsInstOf form wanted (Some inst)
+inst_made inst form wanted is size e widths fits = record { value = is; legal = legal inst form e widths fits; size = size }

@@ -41,8 +41,7 @@ module _ (giver : List ℕ → Option ℕ) where
   address-own : (source at : ℕ) (whole xs : List Statement) (word : List ℕ) → address_from at (map (named giver source whole) xs) (name_in source word) ≡ address_from at xs word
   unfolding address_from
   address-own source at whole [] word = refl
-  address-own source at whole (x ∷ xs) word =
-      grind (arith, nat_tests, address-own source (at + size_of x.body) whole xs word, size_renamed)
+  address-own source at whole (x ∷ xs) word = grind (arith, nat_tests, address-own source (at + size_of x.body) whole xs word, size_renamed)
 
   address-other : (source other at : ℕ) (whole xs : List Statement) (word : List ℕ) → (other ≡ source → ⊥) → address_from at (map (named giver source whole) xs) (name_in other word) ≡ None
   unfolding address_from
@@ -71,8 +70,7 @@ module _ (giver : List ℕ → Option ℕ) where
       → joined_from giver first (xs ++ ys) ≡ joined_from giver first xs ++ joined_from giver next ys
   unfolding joined_from
   joined-append first next [] ys is = grind arith
-  joined-append first next (x ∷ xs) ys is =
-      grind (arith, nat_tests, joined-append (first + 1) next xs ys (omega arith), append_assoc)
+  joined-append first next (x ∷ xs) ys is = grind (arith, nat_tests, joined-append (first + 1) next xs ys (omega arith), append_assoc)
 
   joined-from-one : (i : ℕ) (sources : List (List Statement)) → i < length sources
       → joined_from giver i (drop i sources) ≡ map (named giver i (get_or sources i [])) (get_or sources i []) ++ joined_from giver (i + 1) (drop (i + 1) sources)
@@ -169,8 +167,7 @@ module _ (scope : Scope) (sources : List (List Statement)) (are : AreTables scop
 
     -- what the source's statements are told of a label is the address of its name
     told_as_meant : (word : List ℕ) → addresses_in scope word ≡ addresses_of whole (meant giver place here word)
-    told_as_meant word =
-        grind (arith, nat_tests, has_address from here word, own_told word, given word, address-name giver sources place within word)
+    told_as_meant word = grind (arith, nat_tests, has_address from here word, own_told word, given word, address-name giver sources place within word)
 
     abbrev front_of : ℕ → List Statement
     front_of i = joined_from giver 0 (take place sources) ++ take i (map (named giver place here) here)
@@ -207,8 +204,7 @@ module _ (scope : Scope) (sources : List (List Statement)) (are : AreTables scop
 
 -- where no label of a source stands twice
 pub alone_of : (tables : List Table) (sources : List (List Statement)) → AreTables tables sources → (i : ℕ) (table : Table) (source : List Statement) → i < length sources → table ≡ get_or tables i table → get_or sources i [] ≡ source → table.repeats ≡ false → AreAlone table.labels source (length source)
-alone_of tables sources are i table source within here is =
-    rw is at (are.each i table (omega (arith, within, are.many)) here).alone
+alone_of tables sources are i table source within here is = rw is at (are.each i table (omega (arith, within, are.many)) here).alone
 
 -- the statements of the source at hand, by whatever they are known
 pub reads_source : (scope : Scope) (sources : List (List Statement)) (i : ℕ) (source : List Statement)

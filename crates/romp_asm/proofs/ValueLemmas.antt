@@ -55,5 +55,4 @@ Labels = BTreeMap LabelKey Place
 module _ (old new : Labels) (statement : Statement) (place : Place) (noted_is : (word : List ℕ) → found_in new word ≡ noted (found_in old word) (is_labelled word statement) place) where
   -- one statement more
   pub alone_more : (statements : List Statement) → place.statement < length statements → statement ≡ get_or statements place.statement statement → AreAlone old statements place.statement → IsNew old statement → AreAlone new statements (place.statement + 1)
-  alone_more statements within here alone is =
-      grind (arith, nat_tests, cases_lt, le-ltb, alone, get_or_default)
+  alone_more statements within here alone is = grind (arith, nat_tests, cases_lt, le-ltb, alone, get_or_default)

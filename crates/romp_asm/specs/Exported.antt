@@ -27,8 +27,7 @@ AddsExports source statements old new =
 
 -- a label is given by a source, unless an earlier one gives it
 abbrev pub Gives : (source : ℕ) → (label : List ℕ) → (old new : BTreeMap LabelKey ℕ) → Type 0
-Gives source label old new =
-    (word : List ℕ) → found_in new word ≡ option_or (found_in old word) (if bytes_eq label word then Some source else None)
+Gives source label old new = (word : List ℕ) → found_in new word ≡ option_or (found_in old word) (if bytes_eq label word then Some source else None)
 
 -- why a line can't export a label: its source lacks it, or an earlier line exports it
 abbrev pub export_fault : (line : ℕ) → (known again : Bool) → Option (ℕ × ℕ)

@@ -120,8 +120,7 @@ inst_by op form at (known.Register register ∷ known.Value value ∷ []) = with
 inst_by op form at (known.Value value ∷ []) = alone op form value
 inst_by op form at (known.Register register ∷ known.Place displacement base ∷ []) = at_place op form register displacement base
 inst_by op form at (known.Register first ∷ known.Register second ∷ []) = two_registers op form first second
-inst_by op form at (known.Register first ∷ known.Register second ∷ known.Register third ∷ []) =
-    three_registers op form first second third
+inst_by op form at (known.Register first ∷ known.Register second ∷ known.Register third ∷ []) = three_registers op form first second third
 inst_by op form at (known.Register first ∷ known.Register second ∷ known.Value value ∷ []) = immediate op form first second value
 inst_by op form at (known.Value mask ∷ known.Register register ∷ known.Value value ∷ []) = trapping op form mask register value
 inst_by op form at _ = None

@@ -63,8 +63,7 @@ has_label_of before statement = option_map_or (λ label. is_some (address_of bef
 
 -- the bytes of a statement that stands behind others, once its values are known: kind 8 where it passes 16,384, 9 for a window that may not be
 abbrev pub fitted : ℕ → List (Option Sight) → Body → Result (List ℕ) ℕ → Result (List ℕ) ℕ
-fitted at windows body (Ok bytes) =
-    if nat_lt 16384 (at + size_of body) then Err 8 else if takes_window windows body then Ok bytes else Err 9
+fitted at windows body (Ok bytes) = if nat_lt 16384 (at + size_of body) then Err 8 else if takes_window windows body then Ok bytes else Err 9
 fitted at windows body (Err kind) = Err kind
 
 -- the bytes of a statement at an address, by the addresses of the labels, whether its label is repeated, and the entry and the windows before it; or the least kind of fault that it has, where 5 is a label or `.entry` that is repeated
@@ -88,8 +87,7 @@ image_behind all before (statement ∷ statements) =
 
 -- the parts of a program with this image
 abbrev pub with_image : List Statement → Result (List ℕ) (ℕ × ℕ) → Result Parts (ℕ × ℕ)
-with_image all (Ok image) =
-    Ok (record { image = image; entry = unwrap_or (entry_of (addresses_of all) all) 0; windows = windows_of all })
+with_image all (Ok image) = Ok (record { image = image; entry = unwrap_or (entry_of (addresses_of all) all) 0; windows = windows_of all })
 with_image all (Err fault) = Err fault
 
 -- the parts of the program that statements make, or their first fault

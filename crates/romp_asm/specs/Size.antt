@@ -1,7 +1,7 @@
 -- How many bytes a statement makes.
-use Rattle.std.specs.Prelude.{◌≡◌, ℕ, List, sum_by}
+use Rattle.std.specs.Prelude.{◌≡◌, ℕ, List, sum_by, Option, IfSome}
 use Rattle.romp_table.specs.declared.inst.Inst as table
-use Rattle.romp_asm.specs.Below.{Body, bytes_in, Data, Entry, Export, form_of, Inst, Nothing, Space, Statement, Window}
+use Rattle.romp_asm.specs.Below.{Body, bytes_in, Data, Entry, Export, form_of, Inst, IsLegal, Nothing, Space, Statement, Window}
 use Rattle.asm_parse.specs.declared.form.Form.{Form}
 
 -- the bytes of an instruction of this form
@@ -25,6 +25,12 @@ form_size Form.Call = 4
 -- an instruction has the bytes of its form
 abbrev pub HasSize : Form → table.Inst → Type 0
 HasSize form inst = bytes_in inst ≡ form_size form
+
+-- this instruction or none is made, and it is legal and has the bytes of its form
+pub record IsInstOf (form : Form) (made result : Option table.Inst) : Type 0 where
+  pub value : result ≡ made
+  pub legal : IfSome result IsLegal
+  pub size : IfSome result (HasSize form)
 
 -- the bytes of a statement, by its mnemonic and the number of `.space` alone
 abbrev pub size_of : Body → ℕ

@@ -15,8 +15,7 @@ defines statements word = list_any (is_labelled word) statements
 
 -- the name that a word means in an expression of a source: its own label where it has it, otherwise that of the source that gives the word; where none does, a name that no statement has
 abbrev pub meant : (List ℕ → Option ℕ) → ℕ → List Statement → List ℕ → List ℕ
-meant giver source statements word =
-    name_in (if defines statements word then source else unwrap_or (giver word) source) word
+meant giver source statements word = name_in (if defines statements word then source else unwrap_or (giver word) source) word
 
 -- with other words for labels: an expression
 abbrev pub renamed_expr : (List ℕ → List ℕ) → Expr → Expr

@@ -54,8 +54,7 @@ abbrev pub known_of : (List ℕ → Option ℤ) → Operand → Result Known ℕ
 known_of addresses (operand.Register register) = Ok (known.Register register)
 known_of addresses (operand.Condition condition) = Ok (known.Condition condition)
 known_of addresses (operand.Value value) = result_map known.Value (value_of addresses value)
-known_of addresses (operand.Place displacement register) =
-    result_map (λ value. known.Place value register) (value_of addresses displacement)
+known_of addresses (operand.Place displacement register) = result_map (λ value. known.Place value register) (value_of addresses displacement)
 
 -- the lesser of the kinds of two faults, of which the first may be none
 abbrev pub least_kind : Option ℕ → ℕ → ℕ

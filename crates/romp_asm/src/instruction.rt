@@ -1,6 +1,6 @@
-ghost use Rattle.std.specs.Prelude.{◌≡◌, pos, ◌+ℤ◌, ◌≤ℤ◌, IfSome};
-ghost use Rattle.romp_asm.specs.Below.{form_of, IsLegal, IsSigned};
-ghost use Rattle.romp_asm.specs.Size.{HasSize};
+ghost use Rattle.std.specs.Prelude.{◌≡◌, pos, ◌+ℤ◌, ◌≤ℤ◌};
+ghost use Rattle.romp_asm.specs.Below.{form_of, IsSigned};
+ghost use Rattle.romp_asm.specs.Size.{IsInstOf};
 ghost use Rattle.romp_asm.specs.Instruction.{alone, at_place, conditional, immediate, inst_by, three_registers, to_register, trapping, two_registers, with_register};
 
 use super::field::{at_most, even_at_most, number_field, relative, short_field, signed_field};
@@ -12,9 +12,7 @@ use romp_table::{Inst, Op};
 ///
 /// The ranges are in docs/FORMATS.md, "Assembler".
 pub(crate) fn inst_of(op: Op, at: u32, knowns: &[Known]) -> Option<Inst>
-    ensures value { result ≡ inst_by op (form_of op) at knowns.now }
-    ensures legal { IfSome result IsLegal }
-    ensures size { IfSome result (HasSize (form_of op)) }
+    ensures { IsInstOf (form_of op) (inst_by op (form_of op) at knowns.now) result }
 {
     let form = form_of(op);
     match knowns {
@@ -56,9 +54,7 @@ pub(crate) fn inst_of(op: Op, at: u32, knowns: &[Known]) -> Option<Inst>
 /// `cond, target`.
 fn conditional(op: Op, form: Form, at: u32, condition: u8, target: i64) -> Option<Inst>
     requires { form ≡ form_of op }
-    ensures value { result ≡ conditional op form at condition target }
-    ensures legal { IfSome result IsLegal }
-    ensures size { IfSome result (HasSize form) }
+    ensures { IsInstOf form (conditional op form at condition target) result }
 {
     match form {
         Form::Jump => {
@@ -86,9 +82,7 @@ fn conditional(op: Op, form: Form, at: u32, condition: u8, target: i64) -> Optio
 /// `cond, rC`.
 fn to_register(op: Op, form: Form, condition: u8, register: u8) -> Option<Inst>
     requires { form ≡ form_of op }
-    ensures value { result ≡ to_register op form condition register }
-    ensures legal { IfSome result IsLegal }
-    ensures size { IfSome result (HasSize form) }
+    ensures { IsInstOf form (to_register op form condition register) result }
 {
     match form {
         Form::BranchRegister => {
@@ -103,9 +97,7 @@ fn to_register(op: Op, form: Form, condition: u8, register: u8) -> Option<Inst>
 /// `rB, target`, `rB, k` or `rC, n`.
 fn with_register(op: Op, form: Form, at: u32, register: u8, value: i64) -> Option<Inst>
     requires { form ≡ form_of op }
-    ensures value { result ≡ with_register op form at register value }
-    ensures legal { IfSome result IsLegal }
-    ensures size { IfSome result (HasSize form) }
+    ensures { IsInstOf form (with_register op form at register value) result }
 {
     match form {
         Form::Link => {
@@ -134,9 +126,7 @@ fn with_register(op: Op, form: Form, at: u32, register: u8, value: i64) -> Optio
 /// `target` or `n`.
 fn alone(op: Op, form: Form, value: i64) -> Option<Inst>
     requires { form ≡ form_of op }
-    ensures value { result ≡ alone op form value }
-    ensures legal { IfSome result IsLegal }
-    ensures size { IfSome result (HasSize form) }
+    ensures { IsInstOf form (alone op form value) result }
 {
     match form {
         Form::LinkAddress => {
@@ -159,9 +149,7 @@ fn alone(op: Op, form: Form, value: i64) -> Option<Inst>
 /// `rB, disp(rC)`.
 fn at_place(op: Op, form: Form, register: u8, displacement: i64, base: u8) -> Option<Inst>
     requires { form ≡ form_of op }
-    ensures value { result ≡ at_place op form register displacement base }
-    ensures legal { IfSome result IsLegal }
-    ensures size { IfSome result (HasSize form) }
+    ensures { IsInstOf form (at_place op form register displacement base) result }
 {
     match form {
         Form::Short(scale) => {
@@ -183,9 +171,7 @@ fn at_place(op: Op, form: Form, register: u8, displacement: i64, base: u8) -> Op
 /// `rB, rC`.
 fn two_registers(op: Op, form: Form, first: u8, second: u8) -> Option<Inst>
     requires { form ≡ form_of op }
-    ensures value { result ≡ two_registers op form first second }
-    ensures legal { IfSome result IsLegal }
-    ensures size { IfSome result (HasSize form) }
+    ensures { IsInstOf form (two_registers op form first second) result }
 {
     match form {
         Form::TwoRegisters => {
@@ -200,9 +186,7 @@ fn two_registers(op: Op, form: Form, first: u8, second: u8) -> Option<Inst>
 /// `rA, rB, rC`.
 fn three_registers(op: Op, form: Form, first: u8, second: u8, third: u8) -> Option<Inst>
     requires { form ≡ form_of op }
-    ensures value { result ≡ three_registers op form first second third }
-    ensures legal { IfSome result IsLegal }
-    ensures size { IfSome result (HasSize form) }
+    ensures { IsInstOf form (three_registers op form first second third) result }
 {
     match form {
         Form::ThreeRegisters => {
@@ -218,9 +202,7 @@ fn three_registers(op: Op, form: Form, first: u8, second: u8, third: u8) -> Opti
 /// `rB, rC, n`.
 fn immediate(op: Op, form: Form, first: u8, second: u8, value: i64) -> Option<Inst>
     requires { form ≡ form_of op }
-    ensures value { result ≡ immediate op form first second value }
-    ensures legal { IfSome result IsLegal }
-    ensures size { IfSome result (HasSize form) }
+    ensures { IsInstOf form (immediate op form first second value) result }
 {
     match form {
         Form::Signed => {
@@ -247,9 +229,7 @@ fn immediate(op: Op, form: Form, first: u8, second: u8, value: i64) -> Option<In
 /// `mask, rC, n`.
 fn trapping(op: Op, form: Form, mask: i64, register: u8, value: i64) -> Option<Inst>
     requires { form ≡ form_of op }
-    ensures value { result ≡ trapping op form mask register value }
-    ensures legal { IfSome result IsLegal }
-    ensures size { IfSome result (HasSize form) }
+    ensures { IsInstOf form (trapping op form mask register value) result }
 {
     match form {
         Form::Trap => {

@@ -1,10 +1,10 @@
-use Rattle.romp_asm.proofs.Lemmas.{arith, nat_tests, legal}
+use Rattle.romp_asm.proofs.Lemmas.{arith, common_steps, inst_made, nat_tests}
 use Rattle.romp_asm.proofs.instruction.immediate.Goals as goal
 
-pub returns-in_ok-i-in-Signed-clause-legal : goal.returns-in_ok-i-in-Signed-clause-legal
-returns-in_ok-i-in-Signed-clause-legal c =
-    legal _ c.args.form c.requires (grind arith) (λ row told. grind (arith, nat_tests, c.in-Signed.is))
+pub returns-in_ok-i-in-Signed : goal.returns-in_ok-i-in-Signed
+returns-in_ok-i-in-Signed c =
+    inst_made _ c.args.form _ (grind (arith, common_steps)) (grind (arith, common_steps)) c.requires (grind arith) (λ row told. grind (arith, nat_tests, c.in-Signed.is))
 
-pub returns-in_ok-i-in-Unsigned-clause-legal : goal.returns-in_ok-i-in-Unsigned-clause-legal
-returns-in_ok-i-in-Unsigned-clause-legal c =
-    legal _ c.args.form c.requires (grind arith) (λ row told. grind (arith, nat_tests, c.in-Unsigned.is))
+pub returns-in_ok-i-in-Unsigned : goal.returns-in_ok-i-in-Unsigned
+returns-in_ok-i-in-Unsigned c =
+    inst_made _ c.args.form _ (grind (arith, common_steps)) (grind (arith, common_steps)) c.requires (grind arith) (λ row told. grind (arith, nat_tests, c.in-Unsigned.is))

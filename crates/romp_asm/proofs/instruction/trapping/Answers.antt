@@ -1,6 +1,6 @@
-use Rattle.romp_asm.proofs.Lemmas.{arith, nat_tests, legal}
+use Rattle.romp_asm.proofs.Lemmas.{arith, common_steps, inst_made, nat_tests}
 use Rattle.romp_asm.proofs.instruction.trapping.Goals as goal
 
-pub returns-in_ok-i-in-Trap-clause-legal : goal.returns-in_ok-i-in-Trap-clause-legal
-returns-in_ok-i-in-Trap-clause-legal c =
-    legal _ c.args.form c.requires (grind arith) (λ row told. grind (arith, nat_tests, c.in-Trap.is))
+pub returns-in_ok-i-in-Trap : goal.returns-in_ok-i-in-Trap
+returns-in_ok-i-in-Trap c =
+    inst_made _ c.args.form _ (grind (arith, common_steps)) (grind (arith, common_steps)) c.requires (grind arith) (λ row told. grind (arith, nat_tests, c.in-Trap.is))

@@ -1,6 +1,6 @@
-use Rattle.romp_asm.proofs.Lemmas.{arith, nat_tests, legal}
+use Rattle.romp_asm.proofs.Lemmas.{arith, common_steps, inst_made, nat_tests}
 use Rattle.romp_asm.proofs.instruction.two_registers.Goals as goal
 
-pub returns-in_ok-c-in-TwoRegisters-clause-legal : goal.returns-in_ok-c-in-TwoRegisters-clause-legal
-returns-in_ok-c-in-TwoRegisters-clause-legal c =
-    legal _ c.args.form c.requires (grind arith) (λ row told. grind (arith, nat_tests, c.in-TwoRegisters.is))
+pub returns-in_ok-c-in-TwoRegisters : goal.returns-in_ok-c-in-TwoRegisters
+returns-in_ok-c-in-TwoRegisters c =
+    inst_made _ c.args.form _ (grind (arith, common_steps)) (grind (arith, common_steps)) c.requires (grind arith) (λ row told. grind (arith, nat_tests, c.in-TwoRegisters.is))
