@@ -1,5 +1,5 @@
 -- Rows made ready: decoded once, each with its operand as it is used.
-use Rattle.std.specs.Prelude.{◌≡◌, ℕ, ◌+◌, ◌-◌, ◌*◌, ◌%◌, ◌==◌, nat_lt, nat_le, not, if◌then◌else◌, Bool, true, false, List, slice_index, Option, Some, None, bit_and, bit_or, bit_xor, Result}
+use Rattle.std.specs.Prelude.{◌≡◌, ℕ, ◌+◌, ◌-◌, ◌*◌, ◌%◌, ◌==◌, nat_lt, nat_le, not, if◌then◌else◌, Bool, true, false, List, slice_index, Option, Some, None, IfSome, bit_and, bit_or, bit_xor, Result}
 use Rattle.romp_table.specs.declared.inst.Inst.{Inst}
 use Rattle.flat_machine.specs.declared.machine.Cs.{Cs}
 use Rattle.flat_machine.specs.declared.machine.Act.{Act}
@@ -94,8 +94,7 @@ done_by_register row r cs after y Doing.GoTo = goes_if true (even y) after r cs
 done_by_register row r cs after y Doing.GoToIf = goes_if (condition cs row.b) (even y) after r cs
 done_by_register row r cs after y Doing.GoToUnless = goes_if (not (condition cs row.b)) (even y) after r cs
 done_by_register row r cs after y Doing.LinkTo = goes_with_link (even y) row.b after r cs
-done_by_register row r cs after y doing =
-    plan_alone (worked r cs (work_made doing r cs row.b (slice_index r row.b) y (base r row.c) row.i)) after
+done_by_register row r cs after y doing = plan_alone (worked r cs (work_made doing r cs row.b (slice_index r row.b) y (base r row.c) row.i)) after
 
 -- the rows that go to their operand, and all others
 abbrev pub done_by : Ready → (registers : List ℕ) → Cs → (after : ℕ) → Doing → Plan
@@ -162,6 +161,10 @@ pub record DoesWork (work : List ℕ → Cs → (b x y z : ℕ) → Work) (doing
   pub value :
       (registers : List ℕ) (status : Cs) (b x y z : ℕ) → work_made doing registers status b x y z i ≡ work registers status b x y z
   pub goes_on : GoesOn doing
+
+-- what is made does this work with its operand
+abbrev pub MakesWork : (List ℕ → Cs → (b x y z : ℕ) → Work) → Option (Doing × ℕ) → Type 0
+MakesWork work result = IfSome result (λ made. DoesWork work made.0 made.1)
 
 -- what does the work of a row of two registers, with whatever operand
 abbrev pub DoesTwo : Op → Doing → Type 0

@@ -44,8 +44,7 @@ traps taken = Want (if taken then Act.Check 3 else Act.Nothing)
 
 -- whether one number stands to another in a way that a mask has: 4 less, 2 equal, 1 greater
 abbrev pub is_masked : (mask x y : ℕ) → Bool
-is_masked mask x y =
-    (mask / 4 % 2 == 1 && nat_lt x y) || (mask / 2 % 2 == 1 && (x == y)) || (mask % 2 == 1 && nat_lt y x)
+is_masked mask x y = (mask / 4 % 2 == 1 && nat_lt x y) || (mask / 2 % 2 == 1 && (x == y)) || (mask % 2 == 1 && nat_lt y x)
 
 -- the supervisor call with this number
 abbrev pub called : List ℕ → ℕ → Act

@@ -6,7 +6,7 @@ ghost use Rattle.flat_machine.specs.declared.ready.Ready.{Ready};
 ghost use Rattle.flat_machine.specs.Branches.{branch_to, is_register_branch};
 ghost use Rattle.flat_machine.specs.Row.{plan_of_branch};
 ghost use Rattle.flat_machine.specs.Work.{work_of_r, work_of_d, work_of_s};
-ghost use Rattle.flat_machine.specs.Ready.{done_by, has_second, work_made, GoesOn, IsOf, IsRowOf, IsJump, IsMade, DoesWork, DoesTwo, DoesCount};
+ghost use Rattle.flat_machine.specs.Ready.{done_by, has_second, work_made, GoesOn, IsOf, IsRowOf, IsJump, IsMade, DoesTwo, DoesCount, MakesWork};
 
 use super::branches::target_of;
 use super::ready::{Doing, Ready};
@@ -149,7 +149,7 @@ fn jump_made(op: Op, field: u8) -> Option<Doing>
 /// What a row of format S does, and its operand.
 fn short_made(op: Op, k: u8) -> Option<(Doing, u32)>
     requires { k < 16 }
-    ensures { IfSome result (λ made. DoesWork (λ registers status b x y z. work_of_s op k b z) made.0 made.1) }
+    ensures { MakesWork (λ registers status b x y z. work_of_s op k b z) result }
 {
     let k = u32::from(k);
     match op {
@@ -223,7 +223,7 @@ fn count_made(op: Op, k: u8) -> Option<(Doing, u32)>
 
 /// What a row of format D does, and its operand.
 fn long_made(op: Op, i: u16) -> Option<(Doing, u32)>
-    ensures { IfSome result (λ made. DoesWork (λ r cs b x y z. work_of_d op r cs b y z i) made.0 made.1) }
+    ensures { MakesWork (λ r cs b x y z. work_of_d op r cs b y z i) result }
 {
     let low = u32::from(i);
     let high = low * 0x1_0000;
@@ -250,7 +250,7 @@ fn long_made(op: Op, i: u16) -> Option<(Doing, u32)>
 
 /// What a row of format D that loads or stores does, and its displacement.
 fn access_of(op: Op, i: u16) -> Option<(Doing, u32)>
-    ensures { IfSome result (λ made. DoesWork (λ r cs b x y z. work_of_d op r cs b y z i) made.0 made.1) }
+    ensures { MakesWork (λ r cs b x y z. work_of_d op r cs b y z i) result }
 {
     let doing = match op {
         Op::Lm => Doing::LoadWords,
