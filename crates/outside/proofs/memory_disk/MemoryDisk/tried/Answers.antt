@@ -7,8 +7,5 @@ returns-in-Ok-clause-crash c = c.recorded.ensures.wrote c.args.at c.args.bytes.n
 pub returns-in-Ok-clause-tears : goal.returns-in-Ok-clause-tears
 returns-in-Ok-clause-tears c = grind (arith, nat_tests, entry_is_write, tears_either)
 
-pub returns-in-Ok-clause-held : goal.returns-in-Ok-clause-held
-returns-in-Ok-clause-held c = grind (arith, common_steps)
-
-pub returns-in-Ok-clause-writes : goal.returns-in-Ok-clause-writes
-returns-in-Ok-clause-writes c = grind (arith, common_steps)
+pub returns-in-Ok-clause-went : goal.returns-in-Ok-clause-went
+returns-in-Ok-clause-went c = grind (arith, common_steps)
