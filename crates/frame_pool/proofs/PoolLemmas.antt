@@ -26,8 +26,7 @@ absent-taken x (y ∷ ys) absent = grind (arith, nat_tests, absent-taken x ys)
 pub removed-taken : (xs : List ℕ) (i : ℕ) → is_apart xs ≡ true → i < length xs → remove xs i ≡ taken_out (slice_index xs i ∷ []) xs
 removed-taken [] i apart below = absurd (omega arith)
 removed-taken (x ∷ xs) zero apart below = grind (arith, nat_tests, absent-taken, first-apart)
-removed-taken (x ∷ xs) (suc i) apart below =
-    grind (arith, nat_tests, first-apart x xs apart, has-at xs i, removed-taken xs i)
+removed-taken (x ∷ xs) (suc i) apart below = grind (arith, nat_tests, first-apart x xs apart, has-at xs i, removed-taken xs i)
 
 -- a page that is in a frame leaves it
 pub gone-from :
@@ -142,5 +141,4 @@ room-resident p keep =
 pub came-brought :
     (old mid : Inside) (keep : Option ℕ) (page frame : ℕ) (after : Places) → shown mid ≡ with_room (shown old) keep
     → CameIn (places_of mid.places) after page frame → Brought (shown old) (shown_with after mid.bytes mid.marked.items mid.kept) page keep frame
-came-brought old mid keep page frame after room came =
-    grind (arith, nat_tests, has-push_last after.free frame, room-resident old keep)
+came-brought old mid keep page frame after room came = grind (arith, nat_tests, has-push_last after.free frame, room-resident old keep)

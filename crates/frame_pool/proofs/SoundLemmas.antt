@@ -62,8 +62,7 @@ pub apart-remove : (xs : List ℕ) (i : ℕ) → is_apart xs ≡ true → is_apa
 apart-remove [] zero apart = refl
 apart-remove [] (suc i) apart = refl
 apart-remove (x ∷ xs) zero apart = (first-apart x xs apart).1
-apart-remove (x ∷ xs) (suc i) apart =
-    grind (arith, nat_tests, first-apart x xs apart, has-remove_none xs i x, apart-remove xs i)
+apart-remove (x ∷ xs) (suc i) apart = grind (arith, nat_tests, first-apart x xs apart, has-remove_none xs i x, apart-remove xs i)
 
 -- a number that isn't in a list differs from one that is
 pub differs : (xs : List ℕ) (x z : ℕ) → has xs x ≡ false → has xs z ≡ true → (x == z) ≡ false
@@ -73,8 +72,7 @@ pub has-removed : (xs : List ℕ) (i : ℕ) → is_apart xs ≡ true → i < len
 has-removed [] zero apart below = refl
 has-removed [] (suc i) apart below = refl
 has-removed (x ∷ xs) zero apart below = (first-apart x xs apart).0
-has-removed (x ∷ xs) (suc i) apart below =
-    grind (arith, nat_tests, first-apart x xs apart, has-at xs i, has-removed xs i)
+has-removed (x ∷ xs) (suc i) apart below = grind (arith, nat_tests, first-apart x xs apart, has-at xs i, has-removed xs i)
 
 -- a page that is somewhere is one of the pages, and a frame one of the frames
 within : (X : Type 0) → (xs : List (Option X)) (i : ℕ) (x : X) → slice_index_or xs i None ≡ Some x → i < length xs
@@ -113,11 +111,7 @@ pub sound-left :
     → place_of pages page ≡ Some frame → IsSound (left pages index page frame)
 sound-left pages index page frame sound below is_page in_frame =
     record {
-      sized = record {
-        some = sound.sized.some;
-        few = sound.sized.few;
-        page_in = length-set pages.page_in frame None ∙ sound.sized.page_in;
-      };
+      sized = record { some = sound.sized.some; few = sound.sized.few; page_in = length-set pages.page_in frame None ∙ sound.sized.page_in };
       placed = record {
         used = omega (arith, length-remove pages.resident index below, length-append pages.free (frame ∷ []), old.used);
         pages_apart = apart-remove pages.resident index old.pages_apart;
@@ -178,11 +172,7 @@ pub sound-came :
     })
 sound-came pages page frame free sound absent page_inside split =
     record {
-      sized = record {
-        some = sound.sized.some;
-        few = sound.sized.few;
-        page_in = length-set pages.page_in frame (Some page) ∙ sound.sized.page_in;
-      };
+      sized = record { some = sound.sized.some; few = sound.sized.few; page_in = length-set pages.page_in frame (Some page) ∙ sound.sized.page_in };
       placed = record {
         used = omega (arith, length-append pages.resident (page ∷ []), ap length split, length-append free (frame ∷ []), old.used);
         pages_apart = apart-push pages.resident page old.pages_apart absent;
@@ -250,11 +240,7 @@ in-range low count x inside = grind (arith, nat_tests, has-range)
 pub sound-fresh : (size : PageSize) (frames pages : ℕ) → 2 ≤ frames → frames ≤ 1024 → IsSound (fresh_places size frames pages)
 sound-fresh size frames pages some few =
     record {
-      sized = record {
-        some = some;
-        few = few;
-        page_in = length-replicate {A = Option ℕ} (frame_count size frames) None;
-      };
+      sized = record { some = some; few = few; page_in = length-replicate {A = Option ℕ} (frame_count size frames) None };
       placed = record {
         used = omega (arith, length-range_with_len (private_frames size) frames);
         pages_apart = refl;

@@ -79,8 +79,7 @@ gone pool page =
 
 -- the page that goes out for another: none while a frame is free, else the first that isn't to stay
 abbrev pub page_out : Pool → Option ℕ → Option ℕ
-page_out pool keep =
-    if nat_lt (length pool.resident) pool.frames then None else find (λ page. not (has (option_to_list keep) page)) pool.resident
+page_out pool keep = if nat_lt (length pool.resident) pool.frames then None else find (λ page. not (has (option_to_list keep) page)) pool.resident
 
 -- the pool when that page has gone out
 abbrev pub with_room : Pool → Option ℕ → Pool

@@ -229,8 +229,7 @@ impl FramePool {
     /// The kept bytes of a page lie over those of a frame.
     #[inline(always)]
     fn lay_page(&mut self, page: u16, frame: u16)
-        requires page { page < length self.old.frame_of }
-        requires frame { frame < frame_count self.old.page self.old.frames }
+        requires { (page < length self.old.frame_of) × (frame < frame_count self.old.page self.old.frames) }
         ensures value { self.new ≡ page_laid page frame self.old }
         ensures seen { IsSeen self.new }
     {
@@ -244,8 +243,7 @@ impl FramePool {
 
     /// Kept lines of a page lie over those of a frame, one after another.
     fn lay_lines(&mut self, page: u16, frame: u16, lines: LineSet)
-        requires page { page < length self.old.frame_of }
-        requires frame { frame < frame_count self.old.page self.old.frames }
+        requires { (page < length self.old.frame_of) × (frame < frame_count self.old.page self.old.frames) }
         ensures value { self.new ≡ fold (line_laid page frame) self.old lines }
         ensures seen { IsSeen self.old → IsSeen self.new }
     {
@@ -272,8 +270,7 @@ impl FramePool {
     /// Where a line of a frame begins.
     #[inline(always)]
     fn place(&self, at: Spot) -> usize
-        requires frame { at.frame < frame_count self.now.page self.now.frames }
-        requires line { at.line < 16 }
+        requires { (at.frame < frame_count self.now.page self.now.frames) × (at.line < 16) }
         ensures value { result ≡ line_place self.now.page at.frame at.line }
         ensures within { result + line_size self.now.page ≤ length self.now.bytes }
     {
@@ -282,8 +279,7 @@ impl FramePool {
 
     /// One line of a frame.
     fn line(&self, at: Spot) -> &[u8]
-        requires frame { at.frame < frame_count self.now.page self.now.frames }
-        requires line { at.line < 16 }
+        requires { (at.frame < frame_count self.now.page self.now.frames) × (at.line < 16) }
         ensures { result.now ≡ line_in_frame self.now at.frame at.line }
     {
         self.bytes
@@ -375,8 +371,7 @@ impl FramePool {
 
     /// The kept bytes of a line of a page.
     fn line_kept(&self, page: u16, line: u8) -> &[u8]
-        requires page { page < length self.now.frame_of }
-        requires line { line < 16 }
+        requires { (page < length self.now.frame_of) × (line < 16) }
         ensures { result.now ≡ line_kept self.now page line }
     {
         let size = self.places.page;

@@ -5,7 +5,7 @@ pub loop-line-init : goal.loop-line-init
 loop-line-init c = grind (arith, nat_tests, lines-below c.args.lines c.lines-line-items.ensures.of_page)
 
 pub lay_line-requires-clause-frame : goal.lay_line-requires-clause-frame
-lay_line-requires-clause-frame c = rw (c.loop-line.invariant.size, c.loop-line.invariant.frames) c.requires.frame
+lay_line-requires-clause-frame c = rw (c.loop-line.invariant.size, c.loop-line.invariant.frames) c.requires.1
 
 pub lay_line-requires-clause-line : goal.lay_line-requires-clause-line
 lay_line-requires-clause-line c =
