@@ -18,8 +18,7 @@ pub(crate) fn number_of(run: &[u8]) -> Option<u32>
 /// The number that digits write, if there is one and it has at most 32 bits.
 #[tactic(auto, using(crate::proofs::NumberLemmas::as_number))]
 fn number_in(digits: &[u8], radix: u32) -> Option<u32>
-    requires low { 2 ≤ radix }
-    requires high { radix ≤ 36 }
+    requires { (2 ≤ radix) × (radix ≤ 36) }
     ensures { result ≡ number_in radix digits.now }
 {
     if digits.is_empty() {
@@ -30,8 +29,7 @@ fn number_in(digits: &[u8], radix: u32) -> Option<u32>
 
 /// The number that digits write, if it has at most 32 bits.
 fn value_of(digits: &[u8], radix: u32) -> Option<u32>
-    requires low { 2 ≤ radix }
-    requires high { radix ≤ 36 }
+    requires { (2 ≤ radix) × (radix ≤ 36) }
     ensures { SomeIff result (AllDigits radix digits.now × (digits_value radix digits.now < 2 ^ 32))
         (digits_value radix digits.now) }
 {

@@ -10,14 +10,14 @@ returns-in_err-digit c =
 pub returns-in_err-checked_mul : goal.returns-in_err-checked_mul
 returns-in_err-checked_mul c =
     rw c.from_residual-in_err-checked_mul.ensures (λ told.
-    let below = value_so_far c.args.radix c.args.digits.now c.loop-byte.byte-index c.requires.low c.loop-byte-test.true in
+    let below = value_so_far c.args.radix c.args.digits.now c.loop-byte.byte-index c.requires.0 c.loop-byte-test.true in
     let same = ap (λ n. n * c.args.radix) c.loop-byte.invariant.1 in
     c.in_err-checked_mul.ensures (omega (arith, told.1)))
 
 pub returns-in_err-number : goal.returns-in_err-number
 returns-in_err-number c =
     rw c.from_residual-in_err-number.ensures (λ told.
-    let below = value_so_far c.args.radix c.args.digits.now c.loop-byte.byte-index c.requires.low c.loop-byte-test.true in
+    let below = value_so_far c.args.radix c.args.digits.now c.loop-byte.byte-index c.requires.0 c.loop-byte-test.true in
     let same = ap (λ n. n * c.args.radix) c.loop-byte.invariant.1 in
     let digit = ap digit_value c.from.ensures in
     c.in_err-number.ensures (omega (arith, told.1, c.in_ok-checked_mul.ensures.1, c.in_ok-digit.ensures.value.1)))
