@@ -16,8 +16,7 @@ calls_of-run (run ∷ runs) last = grind (arith, nat_tests, calls_of-run runs la
 -- as many asked alone at the end as there are calls, or fewer
 pub asked-le : (runs : List Run) (asked : ℕ) → asked ≤ length (calls_of runs asked)
 asked-le [] asked = omega (arith, length-replicate asked Asked)
-asked-le (run ∷ runs) asked =
-    omega (arith, length-append (replicate run.asked Asked) (run.call ∷ calls_of runs asked), asked-le runs asked)
+asked-le (run ∷ runs) asked = omega (arith, length-append (replicate run.asked Asked) (run.call ∷ calls_of runs asked), asked-le runs asked)
 
 none_wrote : (asked : ℕ) (calls : List Entry) → count_by is_write (replicate asked Asked ++ calls) ≡ count_by is_write calls
 none_wrote zero calls = refl

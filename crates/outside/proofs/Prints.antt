@@ -24,8 +24,7 @@ prints_well (Some old) new bytes first second prints = prints
 
 -- bytes and then more
 pub prints_on : {T U : Type 0} (old mid new : Option (List ℕ)) (first second : List ℕ) (value : T) (result : Result U Failed) → Prints old mid first (Ok value) → Prints mid new second result → Prints old new (first ++ second) result
-prints_on None mid new first second value result one two =
-    subst (λ (told : Option (List ℕ)). Prints told new second result) one two
+prints_on None mid new first second value result one two = subst (λ (told : Option (List ℕ)). Prints told new second result) one two
 prints_on (Some old) mid new first second value (Ok result) one two =
     let more : new ≡ Some ((old ++ first) ++ second) = subst (λ (told : Option (List ℕ)). Prints told new second (Ok result)) one two in
     more ∙ ap (λ (all : List ℕ). Some all) (append_assoc old first second)

@@ -115,8 +115,7 @@ pub before-lead :
     (next : List (Option ℕ)) (count frame : ℕ) (first : Option ℕ) → first ≡ Some frame → distinct (chain_from next count first) ≡ chain_from next count first
     → before_in (chain_from next count first) frame ≡ None
 before-lead next zero frame first is apart = refl
-before-lead next (suc count) frame first is apart =
-    rw is (before-first frame (chain_from next count (following next frame)) (rw is at apart))
+before-lead next (suc count) frame first is apart = rw is (before-first frame (chain_from next count (following next frame)) (rw is at apart))
 
 -- what follows on a frame along a chain that ends is behind it
 pub before-here :

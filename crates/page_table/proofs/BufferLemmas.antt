@@ -70,8 +70,7 @@ unremembered classes keys wanted all none = grind (arith, nat_tests, remembered-
 
 -- the pairs of a class with a new one: what holds of all before and of the new one holds of all
 newest-all : (P : Pair → Type 0) (pairs : List Pair) (pair : Pair) → All P pairs → P pair → All P (with_newest pairs pair)
-newest-all P pairs pair all new =
-    grind (arith, nat_tests, All-push P (drop 1 pairs) pair (All-drop P 1 pairs all) new, All-push P pairs pair all new)
+newest-all P pairs pair all new = grind (arith, nat_tests, All-push P (drop 1 pairs) pair (All-drop P 1 pairs all) new, All-push P pairs pair all new)
 
 apart-rest : (pairs : List Pair) → AreApart pairs → AreApart (drop 1 pairs)
 apart-rest [] apart = apart

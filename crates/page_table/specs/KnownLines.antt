@@ -23,5 +23,4 @@ KnowsNothing lines = (block : ℕ) → known lines block ≡ None
 
 -- what is known at a block after a line was kept at one: that line, nothing elsewhere in its place, and all else as before
 abbrev pub with_line : (at : ℕ) → OpenLine → (block : ℕ) → Option OpenLine → Option OpenLine
-with_line at line block before =
-    if block == at then Some line else (if place_of block == place_of at then None else before)
+with_line at line block before = if block == at then Some line else (if place_of block == place_of at then None else before)

@@ -53,8 +53,7 @@ module _ {S : Type 0} (plain : Plain) (cpu : Cpu) (seen : Seen S) (same : IsCpuO
       })
   on-gives None s plan state out left =
       ((record { regs = refl; cs = refl; iar = refl; printed = ap length out ∙ same.printed }, out), left)
-  on-gives (Some link) s plan state out left =
-      ((record { regs = refl; cs = refl; iar = refl; printed = ap length out ∙ same.printed }, out), left)
+  on-gives (Some link) s plan state out left = ((record { regs = refl; cs = refl; iar = refl; printed = ap length out ∙ same.printed }, out), left)
 
   -- a check, also of a row with a link
   check-linked : (link : Option (ℕ × ℕ)) (code : ℕ) → with_link link (Check code) ≡ Check code

@@ -69,5 +69,4 @@ if_permitted _ after before = before
 
 -- an address names no byte of a range: no byte of it is at the same place as the address's byte
 abbrev pub IsOutside : Registers → (address count other : ℕ) → Type 0
-IsOutside registers address count other =
-    (k : ℕ) → k < count → located_by registers other 1 false ≢ located_by registers (address + k) 1 false
+IsOutside registers address count other = (k : ℕ) → k < count → located_by registers other 1 false ≢ located_by registers (address + k) 1 false

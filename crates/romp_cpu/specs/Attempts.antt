@@ -118,15 +118,13 @@ state_after seen plan _ = seen.state
 
 -- the row's outcome and the storage's state after it
 abbrev pub GivesAll : {S : Type 0} → Outcome → Plan → Plain → Cpu → Seen S → Tried S → Type 0
-GivesAll outcome plan plain cpu seen result =
-    GivesRow outcome plain result.attempt cpu result.cpu × (result.state ≡ state_after seen plan outcome)
+GivesAll outcome plan plain cpu seen result = GivesRow outcome plain result.attempt cpu result.cpu × (result.state ≡ state_after seen plan outcome)
 
 -- the same with a look at the answer of the row's access: a fault is answered with the access and undoes the row; a check
 -- is the row's
 abbrev pub GivesBy : {S : Type 0} → Probe → Access → Outcome → Plan → Plain → Cpu → Seen S → Tried S → Type 0
 GivesBy Probe.Permitted access outcome plan plain cpu seen result = GivesAll outcome plan plain cpu seen result
-GivesBy (Probe.Check code) access outcome plan plain cpu seen result =
-    (outcome ≡ Check code) × GivesAll outcome plan plain cpu seen result
+GivesBy (Probe.Check code) access outcome plan plain cpu seen result = (outcome ≡ Check code) × GivesAll outcome plan plain cpu seen result
 GivesBy (Probe.Fault fault) access outcome plan plain cpu seen result =
     (result.attempt ≡ Attempt.Fault fault access) × (result.cpu ≡ cpu) × (result.state ≡ seen.state)
 

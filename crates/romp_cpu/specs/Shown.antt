@@ -10,8 +10,7 @@ bytes_from byte_at address count = map byte_at (range_with_len address count)
 
 -- the halfword shown at an address, if it lies in the 16,384 bytes of register 0
 abbrev pub halfword_of : (byte_at : ℕ → ℕ) → (address : ℕ) → Option ℕ
-halfword_of byte_at address =
-    if nat_le (address + 2) 16384 then Some (big_number 2 (bytes_from byte_at address 2)) else None
+halfword_of byte_at address = if nat_le (address + 2) 16384 then Some (big_number 2 (bytes_from byte_at address 2)) else None
 
 -- an access to so many bytes from an address on
 abbrev pub access_to : (address bytes : ℕ) → Bool → Access

@@ -35,8 +35,7 @@ pub record Seen (S : Type 0) : Type 0 where
 
 -- what is seen of a storage in a state, by the meanings of the storage
 abbrev pub seen_in : {S : Type 0} → (S → ℕ → ℕ) → (S → Access → Probe) → (S → ℕ → List ℕ → S) → S → Seen S
-seen_in byte_at answer stored state =
-    record { state = state; shown = bytes_from (byte_at state); answer = answer state; stored = stored state }
+seen_in byte_at answer stored state = record { state = state; shown = bytes_from (byte_at state); answer = answer state; stored = stored state }
 
 -- registers with a link, if there is one
 abbrev pub linked : Option (ℕ × ℕ) → List ℕ → List ℕ

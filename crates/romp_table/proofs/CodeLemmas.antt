@@ -67,5 +67,4 @@ pub legal_number : (inst : Inst) → IsLegal inst → (row : Row) → row_of (op
 legal_number inst legal row is = grind (arith, nat_tests, number_fits, row_of_place)
 
 pub read_back : (inst : Inst) → IsLegal inst → (code : Code) → code ≡ encoded inst → (first second : ℕ) → first < 2 ^ 16 → BeginWith first second code → decoded first second ≡ Some inst
-read_back inst legal code is first second small begins =
-    decoded_of inst legal first second small (subst (BeginWith first second) is begins)
+read_back inst legal code is first second small begins = decoded_of inst legal first second small (subst (BeginWith first second) is begins)

@@ -19,8 +19,7 @@ made_at f op =
 
 -- the mnemonic at the place of an operation is its own
 pub mnemonic_at_place : (op : Op) (name : List ℕ) → slice_get (map (λ name. name.now) NAMES) (place_of op) ≡ Some name → name ≡ mnemonic op
-mnemonic_at_place op name e =
-    some_told _ _ (sym e ∙ ap (λ names. slice_get names (place_of op)) names_ordered ∙ made_at mnemonic op)
+mnemonic_at_place op name e = some_told _ _ (sym e ∙ ap (λ names. slice_get names (place_of op)) names_ordered ∙ made_at mnemonic op)
 
 -- the operation of its mnemonic is an operation itself
 pub named_back : (op : Op) → op_named (mnemonic op) ≡ Some op

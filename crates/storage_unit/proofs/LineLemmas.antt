@@ -66,8 +66,7 @@ module _ (state : Reach) (sound : IsSound state) (first : Virtual) (n : ℕ) (so
           ∙ answered
 
       pub lock-fault : kept 0 ≡ true → Probe.Fault (Fault.Lock first) ≡ answered_at state.directory.page (is_in_frame state) (refuses state) access (Ok first)
-      lock-fault one =
-          cc (here-is state first lies.within, kept-fault 0 some one (λ j less. absurd (omega (arith, less))))
+      lock-fault one = cc (here-is state first lies.within, kept-fault 0 some one (λ j less. absurd (omega (arith, less))))
 
       -- no byte is
       pub permitted : ((k : ℕ) → k < n → kept k ≡ false) → Probe.Permitted ≡ answered_at state.directory.page (is_in_frame state) (refuses state) access (Ok first)

@@ -20,8 +20,7 @@ flat_place directory at = start_of directory at.segment + offset_of directory.pa
 
 -- where a byte lies: at an offset of private storage, or at a place of the store
 abbrev pub place_of : Layout → Virtual → Located
-place_of directory at =
-    if is_private at.segment then Private (offset_of directory.page at) else Shared (flat_place directory at)
+place_of directory at = if is_private at.segment then Private (offset_of directory.page at) else Shared (flat_place directory at)
 
 -- where an access lies, or that it is refused
 abbrev pub place_at : Layout → Result Virtual Check → Located

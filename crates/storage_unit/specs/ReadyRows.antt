@@ -25,5 +25,4 @@ pub record AreReady (rows : ReadyRows) (bytes : List ℕ) (runner : ℕ) : Type 
 
 -- what is known at an address after so many bytes were stored from a byte on: where that one is private, no row that has one of them
 abbrev pub after_store : PageSize → Virtual → (bytes address : ℕ) → Option Ready → Option Ready
-after_store page first bytes address before =
-    if is_private first.segment then unless_met (offset_of page first) bytes address before else before
+after_store page first bytes address before = if is_private first.segment then unless_met (offset_of page first) bytes address before else before

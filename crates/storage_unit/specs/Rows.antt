@@ -103,8 +103,7 @@ StaysClean old new =
 
 -- private bytes of other seats stay
 abbrev pub LeavesSeats : (old new : Reach) → Type 0
-LeavesSeats old new =
-    (seat : ℕ) → seat < 16 → (seat + 1 ≢ old.runner) → private_bytes new.pool seat ≡ private_bytes old.pool seat
+LeavesSeats old new = (seat : ℕ) → seat < 16 → (seat + 1 ≢ old.runner) → private_bytes new.pool seat ≡ private_bytes old.pool seat
 
 -- What a step of a processor over a unit comes to, where it went so.
 pub record StepsOver (old new : Unit) (before after : Cpu) (attempt : Attempt) : Type 0 where

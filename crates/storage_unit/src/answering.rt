@@ -166,8 +166,7 @@ impl Unit {
     /// frame is the pool's, so no segment is looked for in the directory.
     #[inline(always)]
     pub(super) fn frame_for(&mut self, first: Virtual, bytes: u8, store: bool) -> Result<u16, Probe>
-        requires some { 0 < bytes }
-        requires few { bytes ≤ 64 }
+        requires few { (0 < bytes) × (bytes ≤ 64) }
         requires lies { Lies (reach_of self.old) first bytes }
         requires within { first.byte + bytes ≤ page_bytes (reach_of self.old).directory.page }
         ensures answer { AnswersAt (reach_of self.old) first bytes store (answer_of result) }
@@ -259,8 +258,7 @@ impl Unit {
     /// page, from where the access begins; to store only where both are known to be stored.
     #[inline(always)]
     fn known_pair(&self, wants: &Access) -> Option<OpenLine>
-        requires some { 0 < wants.now.bytes }
-        requires few { wants.now.bytes ≤ 64 }
+        requires { (0 < wants.now.bytes) × (wants.now.bytes ≤ 64) }
         ensures { IfSome result (IsOpenFrom (reach_of self.now) wants.now) }
     {
         let offset = wants.address % 128;
@@ -291,8 +289,7 @@ impl Unit {
     /// The known line of an access from where that begins, or its known lines.
     #[inline(always)]
     pub(super) fn known_lines(&self, wants: &Access) -> Option<OpenLine>
-        requires some { 0 < wants.now.bytes }
-        requires few { wants.now.bytes ≤ 64 }
+        requires { (0 < wants.now.bytes) × (wants.now.bytes ≤ 64) }
         ensures { IfSome result (IsOpenFrom (reach_of self.now) wants.now) }
     {
         let line = self.known_line(wants);
@@ -350,8 +347,7 @@ impl Unit {
     /// line is known from now on.
     #[inline(always)]
     pub(super) fn open(&mut self, wants: &Access, first: Virtual) -> Result<u16, Probe>
-        requires some { 0 < wants.now.bytes }
-        requires few { wants.now.bytes ≤ 64 }
+        requires few { (0 < wants.now.bytes) × (wants.now.bytes ≤ 64) }
         requires located { begins_at (reach_of self.old) wants.now ≡ Ok first }
         requires within { first.byte + wants.now.bytes ≤ page_bytes (reach_of self.old).directory.page }
         ensures answer { answer_of result ≡ answer_to (reach_of self.old) wants.now }

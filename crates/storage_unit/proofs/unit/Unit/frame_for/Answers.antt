@@ -2,7 +2,7 @@ use Rattle.storage_unit.proofs.Lemmas.{◌≡◌, ℕ, true, sym, ◌∙◌, ap,
 use Rattle.storage_unit.proofs.unit.Unit.frame_for.Goals as goal
 
 pub private_frame-requires-clause-lies : goal.private_frame-requires-clause-lies
-private_frame-requires-clause-lies c = lies-one (reach_of c.args.self.now) c.args.first c.args.bytes c.requires.some c.requires.lies
+private_frame-requires-clause-lies c = lies-one (reach_of c.args.self.now) c.args.first c.args.bytes c.requires.few.0 c.requires.lies
 
 pub returns-then-first-ge-PRIVATE-clause-answer : goal.returns-then-first-ge-PRIVATE-clause-answer
 returns-then-first-ge-PRIVATE-clause-answer c = λ access bytes same.
@@ -13,16 +13,16 @@ returns-then-first-ge-PRIVATE-clause-answer c = λ access bytes same.
 pub returns-in_default-clause-answer : goal.returns-in_default-clause-answer
 returns-in_default-clause-answer c = λ access bytes same.
     let unit = c.args.self.now in
-    page-fault (reach_of unit) (unit-sound unit) c.args.first c.args.bytes c.requires.some (omega (arith, c.ranges.bytes.fits)) c.requires.lies c.args.store access bytes same
+    page-fault (reach_of unit) (unit-sound unit) c.args.first c.args.bytes c.requires.few.0 (omega (arith, c.ranges.bytes.fits)) c.requires.lies c.args.store access bytes same
     (sym c.translate.ensures.value ∙ none-of c.translate.result c.in_default.not-Some)
 
 pub is_kept_in-requires-clause-lies : goal.is_kept_in-requires-clause-lies
-is_kept_in-requires-clause-lies c = grind (arith, nat_tests, lies-one (reach_of c.args.self.now) c.args.first c.args.bytes c.requires.some c.requires.lies)
+is_kept_in-requires-clause-lies c = grind (arith, nat_tests, lies-one (reach_of c.args.self.now) c.args.first c.args.bytes c.requires.few.0 c.requires.lies)
 
 pub is_kept_in-requires-2-clause-lies : goal.is_kept_in-requires-2-clause-lies
 is_kept_in-requires-2-clause-lies c =
     subst (λ (s : Reach). Lies s c.args.first 1) (sym c.translate.ensures.state)
-    (lies-one (reach_of c.args.self.now) c.args.first c.args.bytes c.requires.some c.requires.lies)
+    (lies-one (reach_of c.args.self.now) c.args.first c.args.bytes c.requires.few.0 c.requires.lies)
 
 -- what a line's entry answers, in the state before
 kept-then : (old new : Reach) (first : Virtual) (k : ℕ) (store answer b : Bool) → new ≡ old → answer ≡ is_kept_from new (on (place_of new.directory first) k) store → answer ≡ b
@@ -32,7 +32,7 @@ kept-then old new first k store answer b stays is was = ap (λ (s : Reach). is_k
 pub returns-then-is_kept_in-clause-answer : goal.returns-then-is_kept_in-clause-answer
 returns-then-is_kept_in-clause-answer c = λ access bytes same.
     let unit = c.args.self.now in
-    lock-fault (reach_of unit) (unit-sound unit) c.args.first c.args.bytes c.requires.some (omega (arith, c.ranges.bytes.fits)) c.requires.lies c.args.store access bytes same
+    lock-fault (reach_of unit) (unit-sound unit) c.args.first c.args.bytes c.requires.few.0 (omega (arith, c.ranges.bytes.fits)) c.requires.lies c.args.store access bytes same
     c.in-Some.frame (sym c.translate.ensures.value ∙ c.in-Some.is) c.requires.within
     (kept-then (reach_of unit) (reach_of c.translate.new.self) c.args.first 0 c.args.store c.is_kept_in.result true c.translate.ensures.state c.is_kept_in.ensures c.if-is_kept_in.true)
 
@@ -46,7 +46,7 @@ returns-then-is_in_line-clause-answer c = λ access bytes same.
     let size = size-is (reach_of unit) (reach_of c.translate.new.self) c.page-page.result c.translate.ensures.state c.page-page.ensures in
     let line : c.args.first.byte % line_bytes unit.directory.page + c.args.bytes ≤ line_bytes unit.directory.page =
     leb-true _ _ (ap (λ s. nat_le (c.args.first.byte % line_bytes s + c.args.bytes) (line_bytes s)) (sym size) ∙ sym c.is_in_line.ensures ∙ c.if-is_in_line.true) in
-    line-permitted (reach_of unit) (unit-sound unit) c.args.first c.args.bytes c.requires.some (omega (arith, c.ranges.bytes.fits)) c.requires.lies c.args.store access bytes same
+    line-permitted (reach_of unit) (unit-sound unit) c.args.first c.args.bytes c.requires.few.0 (omega (arith, c.ranges.bytes.fits)) c.requires.lies c.args.store access bytes same
     c.in-Some.frame (sym c.translate.ensures.value ∙ c.in-Some.is) c.requires.within line
     (kept-then (reach_of unit) (reach_of c.translate.new.self) c.args.first 0 c.args.store c.is_kept_in.result false c.translate.ensures.state c.is_kept_in.ensures c.if-is_kept_in.false)
 
@@ -64,8 +64,8 @@ returns-then-is_kept_in-2-clause-answer c = λ access bytes same.
     let size = size-is (reach_of unit) (reach_of c.translate.new.self) c.page-page.result c.translate.ensures.state c.page-page.ensures in
     let are = rest-is (reach_of unit) (reach_of c.translate.new.self) c.page-page.result c.args.first.byte c.from.result c.rest_of_line-rest.result c.translate.ensures.state c.page-page.ensures c.from.ensures c.rest_of_line-rest.ensures.value in
     ap (λ (v : Virtual). Probe.Fault (Fault.Lock v)) (c.past.ensures ∙ ap (λ (s : Reach). bytes_on s.directory.page c.args.first c.rest_of_line-rest.result) c.translate.ensures.state)
-    ∙ second-fault (reach_of unit) (unit-sound unit) c.args.first c.args.bytes c.requires.some (omega (arith, c.ranges.bytes.fits)) c.requires.lies c.args.store access bytes same
-    c.in-Some.frame (sym c.translate.ensures.value ∙ c.in-Some.is) c.requires.within c.rest_of_line-rest.result are c.requires.few
+    ∙ second-fault (reach_of unit) (unit-sound unit) c.args.first c.args.bytes c.requires.few.0 (omega (arith, c.ranges.bytes.fits)) c.requires.lies c.args.store access bytes same
+    c.in-Some.frame (sym c.translate.ensures.value ∙ c.in-Some.is) c.requires.within c.rest_of_line-rest.result are c.requires.few.1
     (kept-then (reach_of unit) (reach_of c.translate.new.self) c.args.first 0 c.args.store c.is_kept_in.result false c.translate.ensures.state c.is_kept_in.ensures c.if-is_kept_in.false)
     (more unit.directory.page c.args.first.byte c.args.bytes c.rest_of_line-rest.result c.is_in_line.result (c.is_in_line.ensures ∙ ap (λ s. nat_le (c.args.first.byte % line_bytes s + c.args.bytes) (line_bytes s)) size) c.if-is_in_line.false are)
     (kept-then (reach_of unit) (reach_of c.translate.new.self) c.args.first c.rest_of_line-rest.result c.args.store c.is_kept_in-2.result true c.translate.ensures.state c.is_kept_in-2.ensures c.if-is_kept_in-2.true)
@@ -74,8 +74,8 @@ pub returns-clause-answer : goal.returns-clause-answer
 returns-clause-answer c = λ access bytes same.
     let unit = c.args.self.now in
     let are = rest-is (reach_of unit) (reach_of c.translate.new.self) c.page-page.result c.args.first.byte c.from.result c.rest_of_line-rest.result c.translate.ensures.state c.page-page.ensures c.from.ensures c.rest_of_line-rest.ensures.value in
-    lines-permitted (reach_of unit) (unit-sound unit) c.args.first c.args.bytes c.requires.some (omega (arith, c.ranges.bytes.fits)) c.requires.lies c.args.store access bytes same
-    c.in-Some.frame (sym c.translate.ensures.value ∙ c.in-Some.is) c.requires.within c.rest_of_line-rest.result are c.requires.few
+    lines-permitted (reach_of unit) (unit-sound unit) c.args.first c.args.bytes c.requires.few.0 (omega (arith, c.ranges.bytes.fits)) c.requires.lies c.args.store access bytes same
+    c.in-Some.frame (sym c.translate.ensures.value ∙ c.in-Some.is) c.requires.within c.rest_of_line-rest.result are c.requires.few.1
     (kept-then (reach_of unit) (reach_of c.translate.new.self) c.args.first 0 c.args.store c.is_kept_in.result false c.translate.ensures.state c.is_kept_in.ensures c.if-is_kept_in.false)
     (kept-then (reach_of unit) (reach_of c.translate.new.self) c.args.first c.rest_of_line-rest.result c.args.store c.is_kept_in-2.result false c.translate.ensures.state c.is_kept_in-2.ensures c.if-is_kept_in-2.false)
 

@@ -24,5 +24,5 @@ returns c =
       ]
       | else-wants-via-else-wants w ↦ (grind (arith, nat_tests), grind (arith, nat_tests))
     ] in
-    opened-pair c.args.self.now wants front back c.requires.some c.requires.few less.0 less.1 (sym c.at.ensures ∙ c.in_ok-front.was) (sym c.at-2.ensures ∙ c.in_ok-back.was)
+    opened-pair c.args.self.now wants front back c.requires.0 c.requires.1 less.0 less.1 (sym c.at.ensures ∙ c.in_ok-front.was) (sym c.at-2.ensures ∙ c.in_ok-back.was)
     (c.is_behind.ensures c.if-not-is_behind.false) _ refl refl refl
