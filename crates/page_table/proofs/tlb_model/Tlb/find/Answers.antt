@@ -10,12 +10,10 @@ returns-in-Some c =
     let wanted = key_of c.args.at in
     let there : class_of wanted < length c.self.inside.classes = omega arith in
     record {
-      answer = grind (arith, common_steps, class-pairs);
-      after = grind (arith, common_steps, class-pairs);
+      answer = grind (arith, common_steps, class-pairs); after = grind (arith, common_steps, class-pairs); kept = grind (arith, common_steps);
       same = λ all.
         sym (remembered-of c.args.self.now c.args.table.now.keys wanted c.in-Some.pair all
         (ap (λ (list : List (List Pair)). find (is_pair_of wanted) (pairs_in list (class_of wanted))) (sym c.self.view_is)
         ∙ ap (find (is_pair_of wanted)) (class-pairs c.self.inside.classes (class_of wanted) _ there)
         ∙ sym c.find.ensures ∙ c.in-Some.is));
-      kept = grind (arith, common_steps);
     }
