@@ -70,6 +70,6 @@ legal inst form e widths fits = record {
 }
 
 -- so is that which is made
-pub inst_made : (inst : Inst) (form : Form) (wanted : Option Inst) → Some inst ≡ wanted → HasSize form inst → form ≡ form_of (op_of inst) → HasWidths inst
-    → ((row : Row) → row_shape row ≡ shape_of form → IsRowOf inst row) → IsInstOf form wanted (Some inst)
-inst_made inst form wanted is size e widths fits = record { value = is; legal = legal inst form e widths fits; size = size }
+pub inst_made : {inst : Inst} {form : Form} {wanted : Option Inst} → Some inst ≡ wanted → HasSize form inst → form ≡ form_of (op_of inst)
+    → HasWidths inst → ((row : Row) → row_shape row ≡ shape_of form → IsRowOf inst row) → IsInstOf form wanted (Some inst)
+inst_made is size e widths fits = record { value = is; legal = legal _ _ e widths fits; size = size }

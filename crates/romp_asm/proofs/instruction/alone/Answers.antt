@@ -3,8 +3,8 @@ use Rattle.romp_asm.proofs.instruction.alone.Goals as goal
 
 pub returns-in_ok-to-in-LinkAddress : goal.returns-in_ok-to-in-LinkAddress
 returns-in_ok-to-in-LinkAddress c =
-    inst_made _ c.args.form _ (grind (arith, common_steps)) (grind (arith, common_steps)) c.requires (grind arith) (λ row told. grind (arith, nat_tests, c.in-LinkAddress.is))
+    inst_made (grind (arith, common_steps)) (grind arith) c.requires (grind arith) (λ row told. grind (arith, nat_tests, c.in-LinkAddress.is))
 
 pub returns-in_ok-i-in-Call : goal.returns-in_ok-i-in-Call
 returns-in_ok-i-in-Call c =
-    inst_made _ c.args.form _ (grind (arith, common_steps)) (grind (arith, common_steps)) c.requires (grind arith) (λ row told. grind (arith, nat_tests, c.in-Call.is))
+    inst_made (grind (arith, common_steps)) (grind arith) c.requires (grind arith) (λ row told. grind (arith, nat_tests, c.in-Call.is))

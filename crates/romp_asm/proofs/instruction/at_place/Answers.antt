@@ -6,8 +6,8 @@ short_field-requires c = scale_some c.args.op _ (sym c.in-Short.is ∙ c.require
 
 pub returns-in_ok-c-in-Short : goal.returns-in_ok-c-in-Short
 returns-in_ok-c-in-Short c =
-    inst_made _ c.args.form _ (grind (arith, common_steps)) (grind (arith, common_steps)) c.requires (grind arith) (λ row told. grind (arith, nat_tests, c.in-Short.is))
+    inst_made (grind (arith, common_steps)) (grind arith) c.requires (grind arith) (λ row told. grind (arith, nat_tests, c.in-Short.is))
 
 pub returns-in_ok-c-in-Long : goal.returns-in_ok-c-in-Long
 returns-in_ok-c-in-Long c =
-    inst_made _ c.args.form _ (grind (arith, common_steps)) (grind (arith, common_steps)) c.requires (grind arith) (λ row told. grind (arith, nat_tests, c.in-Long.is))
+    inst_made (grind (arith, common_steps)) (grind arith) c.requires (grind arith) (λ row told. grind (arith, nat_tests, c.in-Long.is))

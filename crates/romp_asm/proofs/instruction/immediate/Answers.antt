@@ -3,8 +3,8 @@ use Rattle.romp_asm.proofs.instruction.immediate.Goals as goal
 
 pub returns-in_ok-i-in-Signed : goal.returns-in_ok-i-in-Signed
 returns-in_ok-i-in-Signed c =
-    inst_made _ c.args.form _ (grind (arith, common_steps)) (grind (arith, common_steps)) c.requires (grind arith) (λ row told. grind (arith, nat_tests, c.in-Signed.is))
+    inst_made (grind (arith, common_steps)) (grind arith) c.requires (grind arith) (λ row told. grind (arith, nat_tests, c.in-Signed.is))
 
 pub returns-in_ok-i-in-Unsigned : goal.returns-in_ok-i-in-Unsigned
 returns-in_ok-i-in-Unsigned c =
-    inst_made _ c.args.form _ (grind (arith, common_steps)) (grind (arith, common_steps)) c.requires (grind arith) (λ row told. grind (arith, nat_tests, c.in-Unsigned.is))
+    inst_made (grind (arith, common_steps)) (grind arith) c.requires (grind arith) (λ row told. grind (arith, nat_tests, c.in-Unsigned.is))

@@ -3,4 +3,4 @@ use Rattle.romp_asm.proofs.instruction.to_register.Goals as goal
 
 pub returns-in_ok-c-in-BranchRegister : goal.returns-in_ok-c-in-BranchRegister
 returns-in_ok-c-in-BranchRegister c =
-    inst_made _ c.args.form _ (grind (arith, common_steps)) (grind (arith, common_steps)) c.requires (grind arith) (λ row told. grind (arith, nat_tests, c.in-BranchRegister.is))
+    inst_made (grind (arith, common_steps)) (grind arith) c.requires (grind arith) (λ row told. grind (arith, nat_tests, c.in-BranchRegister.is))

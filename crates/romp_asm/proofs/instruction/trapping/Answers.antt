@@ -3,4 +3,4 @@ use Rattle.romp_asm.proofs.instruction.trapping.Goals as goal
 
 pub returns-in_ok-i-in-Trap : goal.returns-in_ok-i-in-Trap
 returns-in_ok-i-in-Trap c =
-    inst_made _ c.args.form _ (grind (arith, common_steps)) (grind (arith, common_steps)) c.requires (grind arith) (λ row told. grind (arith, nat_tests, c.in-Trap.is))
+    inst_made (grind (arith, common_steps)) (grind arith) c.requires (grind arith) (λ row told. grind (arith, nat_tests, c.in-Trap.is))

@@ -11,8 +11,8 @@ returns-in_ok-disp-in-Link c =
 
 pub returns-in_ok-k-in-Count : goal.returns-in_ok-k-in-Count
 returns-in_ok-k-in-Count c =
-    inst_made _ c.args.form _ (grind (arith, common_steps)) (grind (arith, common_steps)) c.requires (grind arith) (λ row told. grind (arith, nat_tests, c.in-Count.is))
+    inst_made (grind (arith, common_steps)) (grind arith) c.requires (grind arith) (λ row told. grind (arith, nat_tests, c.in-Count.is))
 
 pub returns-in_ok-i-in-Compare : goal.returns-in_ok-i-in-Compare
 returns-in_ok-i-in-Compare c =
-    inst_made _ c.args.form _ (grind (arith, common_steps)) (grind (arith, common_steps)) c.requires (grind arith) (λ row told. grind (arith, nat_tests, c.in-Compare.is))
+    inst_made (grind (arith, common_steps)) (grind arith) c.requires (grind arith) (λ row told. grind (arith, nat_tests, c.in-Compare.is))
