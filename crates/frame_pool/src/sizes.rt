@@ -41,10 +41,7 @@ pub fn page_place(size: PageSize, page: u16) -> usize
     ensures value { result ≡ page * page_bytes size }
     ensures few { result < 2 ^ 28 }
 {
-    match size {
-        PageSize::Two => usize::from(page) * 2048,
-        PageSize::Four => usize::from(page) * 4096,
-    }
+    size.pages_bytes(page) as usize
 }
 
 /// Where a line of a page begins, among pages that lie end to end.

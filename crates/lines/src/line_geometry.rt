@@ -42,6 +42,18 @@ impl PageSize {
             PageSize::Four => 256,
         }
     }
+
+    /// The bytes of so many pages.
+    #[inline(always)]
+    pub fn pages_bytes(self, count: u16) -> u32
+        ensures value { result ≡ count * page_bytes self }
+        ensures few { result < 2 ^ 28 }
+    {
+        match self {
+            PageSize::Two => u32::from(count) * 2048,
+            PageSize::Four => u32::from(count) * 4096,
+        }
+    }
 }
 
 /// Why a list of segments is no directory (docs/FORMATS.md).
@@ -195,7 +207,7 @@ impl Directory {
         ensures value { result ≡ byte_count self.now }
         ensures small { result ≤ 2 ^ 22 }
     {
-        pages_bytes(self.page, self.pages())
+        self.page.pages_bytes(self.pages())
     }
 
     /// The bytes of a line.
@@ -217,7 +229,7 @@ impl Directory {
     /// Where the segment with this identifier begins; the end of the store where no segment has it.
     pub fn start_of(&self, segment: u16) -> u32
         ensures value { result ≡ start_of self.now segment }
-        ensures within { IfSome (length_of self.now segment) (λ bytes. result + bytes ≤ byte_count self.now) }
+        ensures within { IfSome (length_of self.now segment) (λ long. result + long ≤ byte_count self.now) }
         ensures small { byte_count self.now ≤ 2 ^ 22 }
     {
         start_among(self.segments(), segment, self.page)
@@ -339,23 +351,12 @@ fn filled_up(segments: &[(u16, u16)]) -> [(u16, u16); MOST_SEGMENTS]
     filled
 }
 
-/// The bytes of so many pages.
-fn pages_bytes(page: PageSize, count: u16) -> u32
-    ensures value { result ≡ count * page_bytes page }
-    ensures few { result < 2 ^ 28 }
-{
-    match page {
-        PageSize::Two => u32::from(count) * 2048,
-        PageSize::Four => u32::from(count) * 4096,
-    }
-}
-
 /// The bytes of the first of these segments with an identifier.
 fn length_among(segments: &[(u16, u16)], segment: u16, page: PageSize) -> Option<u32>
     ensures { result ≡ option_map (bytes_of (page_bytes page)) (find (is_named segment) segments.now) }
 {
     match first_named(segments, segment) {
-        Some(found) => Some(pages_bytes(page, found.1)),
+        Some(found) => Some(page.pages_bytes(found.1)),
         None => None,
     }
 }
@@ -380,7 +381,7 @@ fn start_among(segments: &[(u16, u16)], segment: u16, page: PageSize) -> u32
             if first.0 == segment {
                 0
             } else {
-                pages_bytes(page, first.1) + start_among(rest, segment, page)
+                page.pages_bytes(first.1) + start_among(rest, segment, page)
             }
         }
     }
