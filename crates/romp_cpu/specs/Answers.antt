@@ -45,7 +45,8 @@ answer_in registers is_in_frame refuses state = answered (registers state) (is_i
 
 -- an access of so many bytes is permitted
 abbrev pub MayAccess : {S : Type 0} → (S → Registers) → (S → Virtual → Bool) → (S → Virtual → Bool → Bool) → S → (address bytes : ℕ) → Bool → Type 0
-MayAccess registers is_in_frame refuses state address bytes store = answer_in registers is_in_frame refuses state (access_to address bytes store) ≡ Probe.Permitted
+MayAccess registers is_in_frame refuses state address bytes store =
+    answer_in registers is_in_frame refuses state (access_to address bytes store) ≡ Probe.Permitted
 
 -- an access loads, or stores, registers from one upwards
 pub record FitsRegisters (wants : Access) (store : Bool) (register : ℕ) : Type 0 where

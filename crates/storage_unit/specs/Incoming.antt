@@ -32,8 +32,9 @@ pub record HasGoneOut (old : Reach) (page : ℕ) (keep : Option ℕ) (new : Pool
   pub out : new ≡ emptied between
   pub none : new.resident ≡ []
 
--- What bringing a page in comes to: its bytes were read, or each of its lines is kept and nothing was asked; where it can't be read, all pages go out.
-pub record BringsIn {P W E T : Type 0} (G : Ghosts P W E) (pages : P) (before after : W) (old new : Unit) (page : ℕ) (keep : Option ℕ) (result : Result T E) : Type 0 where
+-- Bringing a page in: its bytes were read, or each of its lines is kept and nothing was asked; where it can't be read, all pages go out.
+pub record BringsIn {P W E T : Type 0}
+    (G : Ghosts P W E) (pages : P) (before after : W) (old new : Unit) (page : ℕ) (keep : Option ℕ) (result : Result T E) : Type 0 where
   pub rest : reach_of new ≡ record (reach_of old) { pool = new.pool }
   pub came : OnOk result (((bytes : List ℕ) × G.read pages before page bytes after × IsFilled (reach_of old) page keep bytes new.pool)
       ⊎ ((after ≡ before) × IsKept (reach_of old) page keep new.pool))

@@ -45,10 +45,7 @@ pub fn offset_of(page: PageSize, at: Virtual) -> u32
 pub fn spot_of(page: PageSize, frame: u16, byte: u16) -> u32
     ensures { result ≡ frame * page_bytes page + byte }
 {
-    match page {
-        PageSize::Two => u32::from(frame) * 2048 + u32::from(byte),
-        PageSize::Four => u32::from(frame) * 4096 + u32::from(byte),
-    }
+    page.pages_bytes(frame) + u32::from(byte)
 }
 
 /// The byte so many past another in its segment.

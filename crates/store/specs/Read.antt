@@ -44,7 +44,8 @@ ReadsBank G page at bank_bytes old new before result =
 
 abbrev pub ReadsGate : {W : Type 0} → Ghosts W → PageSize → (end due gate : ℕ) → (old new : List (Option ℕ)) → W → Result Gate Failed → Type 0
 ReadsGate G page end due gate old new before result =
-    ReadsTold G before (λ held found. IsGate found gate old new (format.gate_if page (slice_index held gate == 0xA5) (length old) end due gate (drop gate held))) result
+    ReadsTold G before (λ held found.
+    IsGate found gate old new (format.gate_if page (slice_index held gate == 0xA5) (length old) end due gate (drop gate held))) result
 
 abbrev pub ReadsLines : {W : Type 0} → Ghosts W → PageSize → (count at : ℕ) → (old new : List (Option ℕ)) → W → Result (Option ℕ) Failed → Type 0
 ReadsLines G page count at old new before result =
