@@ -5,7 +5,7 @@ ghost use Rattle.frame_pool.specs.Pool.{marked_with};
 
 use super::frame_bytes::FrameBytes;
 use super::pages::StorePages;
-use super::sizes::{line_at, line_bytes, line_place, page_bytes, page_place, private_frames};
+use super::sizes::{line_bytes, line_place, page_bytes, page_place, private_frames};
 use lines::{LineSet, OwnedList, PageSize};
 use std::alloc::{AllocError, Global};
 use std::marker::Model;
@@ -343,7 +343,8 @@ impl FramePool {
             return LineSet::none();
         }
         let size = self.places.page;
-        LineSet::between(line_at(size, at), line_at(size, at + count - 1))
+        let last = size.line_at((at + count - 1) as u16);
+        LineSet::between(size.line_at(at as u16), last)
     }
 
     /// The lines of a page that are marked as written.

@@ -1,5 +1,5 @@
 // The sizes of pages and lines.
-ghost use Rattle.std.specs.Prelude.{◌≡◌, ◌+◌, ◌*◌, ◌/◌, ◌<◌, ◌≤◌, ◌^◌};
+ghost use Rattle.std.specs.Prelude.{◌≡◌, ◌*◌, ◌<◌, ◌≤◌, ◌^◌};
 ghost use Rattle.lines.specs.Segments.{page_bytes};
 ghost use Rattle.frame_pool.specs.Sizes.{private_frames, line_size, line_place};
 
@@ -53,17 +53,5 @@ pub fn line_place(size: PageSize, page: u16, line: u8) -> usize
     match size {
         PageSize::Two => usize::from(page) * 2048 + usize::from(line) * 128,
         PageSize::Four => usize::from(page) * 4096 + usize::from(line) * 256,
-    }
-}
-
-/// The line of a page in which a byte of it lies.
-#[inline(always)]
-pub fn line_at(size: PageSize, byte: usize) -> u8
-    requires { byte < page_bytes size }
-    ensures { result ≡ byte / line_size size }
-{
-    match size {
-        PageSize::Two => (byte / 128) as u8,
-        PageSize::Four => (byte / 256) as u8,
     }
 }

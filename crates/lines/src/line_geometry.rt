@@ -1,4 +1,4 @@
-ghost use Rattle.std.specs.Prelude.{◌≡◌, nat_lt, ◌+◌, ◌*◌, ◌==◌, ◌≤◌, ◌<◌, ◌^◌, ◌++◌, not, option_map, find, sum_by, take_while, length, drop, replicate, IfSome, IfOk, IfErr, IsOk, ◌↔◌};
+ghost use Rattle.std.specs.Prelude.{◌≡◌, nat_lt, ◌+◌, ◌*◌, ◌/◌, ◌==◌, ◌≤◌, ◌<◌, ◌^◌, ◌++◌, not, option_map, find, sum_by, take_while, length, drop, replicate, IfSome, IfOk, IfErr, IsOk, ◌↔◌};
 ghost use Rattle.lines.specs.Segments.{page_bytes, line_bytes, bytes_of, is_named};
 ghost use Rattle.lines.specs.Directory.{fine_among};
 ghost use Rattle.lines.specs.Legal.{fault_of, fault_after, fault_with, flag_count, is_strange, IsLegal, AreFlags};
@@ -52,6 +52,19 @@ impl PageSize {
         match self {
             PageSize::Two => u32::from(count) * 2048,
             PageSize::Four => u32::from(count) * 4096,
+        }
+    }
+
+    /// The line of a page in which a byte of it lies.
+    #[inline(always)]
+    pub fn line_at(self, byte: u16) -> u8
+        requires { byte < page_bytes self }
+        ensures value { result ≡ byte / line_bytes self }
+        ensures few { result < 16 }
+    {
+        match self {
+            PageSize::Two => (byte / 128) as u8,
+            PageSize::Four => (byte / 256) as u8,
         }
     }
 }

@@ -10,7 +10,7 @@ ghost use Rattle.storage_unit.specs.OpenLines.{IsMarkedAt, IsOpenAt, IsOpenFrom}
 
 use super::private::PRIVATE;
 use super::sizes::{
-    byte_past, first_frame, is_behind, is_in_line, line_in_page, offset_of, rest_of_line, spot_of,
+    byte_past, first_frame, is_behind, is_in_line, offset_of, rest_of_line, spot_of,
 };
 use super::unit::Unit;
 use page_table::{OpenLine, Virtual};
@@ -203,7 +203,7 @@ impl Unit {
         requires frame { frame_found (reach_of self.now) first ≡ Some frame }
         ensures { result ≡ refuses_past (reach_of self.now) first past store }
     {
-        let line = line_in_page(self.directory.page(), first.byte + past);
+        let line = self.directory.page().line_at(first.byte + past);
         match self.pool.page_in(frame) {
             Some(page) => !self.table.authority(page).permits(self.runner, line, store),
             None => true,
@@ -247,7 +247,7 @@ impl Unit {
         if !store {
             return false;
         }
-        let line = line_in_page(self.directory.page(), first.byte);
+        let line = self.directory.page().line_at(first.byte);
         match self.pool.page_in(frame) {
             Some(page) => self.pool.written(page).contains(line),
             None => true,

@@ -1,5 +1,5 @@
 // Places, by the size of a page.
-ghost use Rattle.std.specs.Prelude.{◌≡◌, ◌+◌, ◌-◌, ◌*◌, ◌/◌, ◌%◌, ◌<◌, ◌≤◌, ◌^◌, nat_le, true};
+ghost use Rattle.std.specs.Prelude.{◌≡◌, ◌+◌, ◌-◌, ◌*◌, ◌%◌, ◌<◌, ◌≤◌, ◌^◌, nat_le, true};
 ghost use Rattle.storage_unit.specs.Below.{bytes_on, line_bytes, page_bytes};
 ghost use Rattle.storage_unit.specs.Held.{seat_pages};
 ghost use Rattle.storage_unit.specs.Places.{offset_of};
@@ -79,18 +79,6 @@ pub fn rest_of_line(page: PageSize, place: u32) -> u16
     match page {
         PageSize::Two => 128 - (place % 128) as u16,
         PageSize::Four => 256 - (place % 256) as u16,
-    }
-}
-
-/// The line of a byte in its page.
-pub fn line_in_page(page: PageSize, byte: u16) -> u8
-    requires { byte < page_bytes page }
-    ensures value { result ≡ byte / line_bytes page }
-    ensures few { result < 16 }
-{
-    match page {
-        PageSize::Two => (byte / 128) as u8,
-        PageSize::Four => (byte / 256) as u8,
     }
 }
 

@@ -23,13 +23,13 @@ returns-in-Some c =
     let found = page-found (reach_of unit) (unit-sound unit) c.args.first c.args.frame c.requires.lies c.requires.shared c.requires.frame in
     let inside : at % page_bytes size + c.args.past < page_bytes size = omega (arith, byte, c.requires.within) in
     let page : c.in-Some.page ≡ page_of unit.directory (at + c.args.past) = same _ _ (sym c.in-Some.is ∙ c.page_in.ensures ∙ found) ∙ sym (same-page-on size at c.args.past inside) in
-    let line : c.line_in_page-line.result ≡ line_of unit.directory (at + c.args.past) % 16 =
-    c.line_in_page-line.ensures.value ∙ ap (λ s. (c.args.first.byte + c.args.past) / line_bytes s) c.page.ensures
+    let line : c.line_at-line.result ≡ line_of unit.directory (at + c.args.past) % 16 =
+    c.line_at-line.ensures.value ∙ ap (λ s. (c.args.first.byte + c.args.past) / line_bytes s) c.page.ensures
     ∙ sym (line-in size (at + c.args.past) (c.args.first.byte + c.args.past) (rest-on size at c.args.past inside ∙ ap (λ n. n + c.args.past) byte)) in
     ap not
     (c.permits.ensures
-    ∙ ap (λ (entry : Authority). lets (grant_of entry) unit.runner c.line_in_page-line.result c.args.store) c.authority.ensures
-    ∙ ap (λ p. lets (grant_of (entry_at unit.table p)) unit.runner c.line_in_page-line.result c.args.store) (page ∙ sym (page-of-line size (at + c.args.past)))
+    ∙ ap (λ (entry : Authority). lets (grant_of entry) unit.runner c.line_at-line.result c.args.store) c.authority.ensures
+    ∙ ap (λ p. lets (grant_of (entry_at unit.table p)) unit.runner c.line_at-line.result c.args.store) (page ∙ sym (page-of-line size (at + c.args.past)))
     ∙ ap (λ l. lets (grant_of (entry_at unit.table (line_of unit.directory (at + c.args.past) / 16))) unit.runner l c.args.store) line)
     ∙ sym (ap (λ p. is_kept_from (reach_of unit) (on p c.args.past) c.args.store) (shared-is unit.directory c.args.first c.requires.shared))
 

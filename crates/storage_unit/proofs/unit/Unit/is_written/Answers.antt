@@ -16,12 +16,12 @@ returns-in-Some-clause-marked c = λ is own.
     let at = start_of unit.directory c.args.first.segment + offset_of size c.args.first in
     let found = page-found (reach_of unit) (unit-sound unit) c.args.first c.args.frame c.requires.lies own c.requires.frame in
     let page : c.in-Some.page ≡ page_of unit.directory at = same _ _ (sym c.in-Some.is ∙ c.page_in.ensures ∙ found) in
-    let line : c.line_in_page-line.result ≡ line_of unit.directory at % 16 =
-    c.line_in_page-line.ensures.value ∙ ap (λ s. c.args.first.byte / line_bytes s) c.page.ensures
+    let line : c.line_at-line.result ≡ line_of unit.directory at % 16 =
+    c.line_at-line.ensures.value ∙ ap (λ s. c.args.first.byte / line_bytes s) c.page.ensures
     ∙ sym (line-in size at c.args.first.byte (place-byte (reach_of unit) (unit-sound unit) c.args.first 1 (omega arith) c.requires.lies)) in
     ap (λ l. has (marks_at unit.pool (page_of_line (line_of unit.directory at))) l) (sym line)
-    ∙ ap (λ p. has (marks_at unit.pool p) c.line_in_page-line.result) (page-of-line size at ∙ sym page)
-    ∙ ap (λ (set : List ℕ). has set c.line_in_page-line.result) (sym c.written.ensures)
+    ∙ ap (λ p. has (marks_at unit.pool p) c.line_at-line.result) (page-of-line size at ∙ sym page)
+    ∙ ap (λ (set : List ℕ). has set c.line_at-line.result) (sym c.written.ensures)
     ∙ sym c.contains.ensures.value ∙ is
 
 pub returns-in-None-clause-marked : goal.returns-in-None-clause-marked
