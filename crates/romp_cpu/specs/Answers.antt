@@ -44,8 +44,8 @@ abbrev pub answer_in : {S : Type 0} → (S → Registers) → (S → Virtual →
 answer_in registers is_in_frame refuses state = answered (registers state) (is_in_frame state) (refuses state)
 
 -- an access of so many bytes is permitted
-abbrev pub MayAccess : {S : Type 0} → (S → Registers) → (S → Virtual → Bool) → (S → Virtual → Bool → Bool) → S → (address bytes : ℕ) → Bool → Type 0
-MayAccess registers is_in_frame refuses state address bytes store =
+abbrev pub Admits : {S : Type 0} → (S → Registers) → (S → Virtual → Bool) → (S → Virtual → Bool → Bool) → S → (address bytes : ℕ) → Bool → Type 0
+Admits registers is_in_frame refuses state address bytes store =
     answer_in registers is_in_frame refuses state (access_to address bytes store) ≡ Probe.Permitted
 
 -- an access loads, or stores, registers from one upwards

@@ -1,5 +1,5 @@
 -- An attempt over a storage, beside the row of a plain state that agrees with it.
-use Rattle.std.specs.Prelude.{◌≡◌, ℕ, ◌+◌, ◌<◌, ◌≤◌, if◌then◌else◌, true, false, List, [], ◌∷◌, ◌++◌, length, slice_range, Option, Some, None}
+use Rattle.std.specs.Prelude.{◌≡◌, ℕ, ◌+◌, ◌<◌, ◌≤◌, if◌then◌else◌, Bool, true, false, List, [], ◌∷◌, ◌++◌, length, slice_range, Option, Some, None}
 use Rattle.std.specs.Option.{option_map_or}
 use Rattle.lines.specs.Directory.{Layout}
 use Rattle.lines.specs.Conflicts.{Lines, no_lines}
@@ -18,7 +18,7 @@ use Rattle.romp_cpu.specs.declared.storage.Probe.{Probe}
 use Rattle.romp_cpu.specs.Shown.{access_to, halfword_of}
 use Rattle.romp_cpu.specs.declared.storage.Storage.{Ghosts}
 use Rattle.romp_cpu.specs.Answers.{answer_in}
-use Rattle.romp_cpu.specs.Tried.{Seen, seen_in, Tried, tried, tried_act}
+use Rattle.romp_cpu.specs.Tried.{IsDoneIf, Seen, seen_in, Tried, tried, tried_act}
 
 -- the plan of a processor's next instruction, from the bytes that are shown
 abbrev pub next_plan : (byte_at : ℕ → ℕ) → Cpu → Plan
@@ -36,11 +36,22 @@ plan_over G storage cpu = next_plan (G.byte_at (G.state storage)) cpu
 abbrev pub left_as : {S State : Type 0} (G : Ghosts S State) → Attempt → Cpu → S → Tried State
 left_as G attempt cpu storage = record { attempt = attempt; cpu = cpu; state = G.state storage }
 
--- from a storage and a processor to others an attempt does the act that is left of an instruction
-abbrev pub TriesAct : {S State : Type 0} (G : Ghosts S State) (before after : S) (old new : Cpu) → Act → (next : ℕ) → Option (ℕ × ℕ) → Attempt → Type 0
-TriesAct G before after old new act next link attempt = left_as G attempt new after ≡ tried_act (seen_of G before) old act old.regs old.cs next link
+-- the access of a fault is of 1 to 64 bytes
+abbrev pub IsOfFewBytes : Attempt → Type 0
+IsOfFewBytes (Attempt.Fault fault access) = (0 < access.bytes) × (access.bytes ≤ 64)
+IsOfFewBytes _ = Unit {0}
 
--- it does what the plan of the next instruction says
+-- from a storage and a processor to others an attempt does the act that is left of an instruction, and an access has few bytes
+pub record TriesAct {S State : Type 0} (G : Ghosts S State)
+    (before after : S) (old new : Cpu) (act : Act) (next : ℕ) (link : Option (ℕ × ℕ)) (attempt : Attempt) : Type 0 where
+  pub tried : left_as G attempt new after ≡ tried_act (seen_of G before) old act old.regs old.cs next link
+  pub few : IsOfFewBytes attempt
+
+-- so it does it at once, where that is answered, and else nothing
+abbrev pub DoesIf : {S State : Type 0} (G : Ghosts S State) (before after : S) (old new : Cpu) → Act → (next : ℕ) → Option (ℕ × ℕ) → Bool → Type 0
+DoesIf G before after old new act next link did = IsDoneIf did (seen_of G before) old (Does old.regs old.cs act next link) new (G.state after)
+
+-- an attempt does what the plan of the next instruction says
 abbrev pub TriesNext : {S State : Type 0} (G : Ghosts S State) (before after : S) (old new : Cpu) → Attempt → Type 0
 TriesNext G before after old new attempt = left_as G attempt new after ≡ tried (seen_of G before) old (plan_over G before old)
 
@@ -156,13 +167,12 @@ GivesEveryRow cpu seen result =
     (program : Program) (directory : Layout) (plain : Plain)
     → Agrees program directory plain cpu seen → GivesPlan program directory plain (plan_at plain) cpu seen result
 
+-- so from a storage and a processor to others
+abbrev pub GivesNext : {S State : Type 0} (G : Ghosts S State) (before after : S) (old new : Cpu) → Attempt → Type 0
+GivesNext G before after old new attempt = GivesEveryRow old (seen_of G before) (left_as G attempt new after)
+
 -- a fault, a commit and a check leave processor and state as they were
 abbrev pub UndoesUnlessWent : {S : Type 0} → Attempt → Cpu → Cpu → S → S → Type 0
 UndoesUnlessWent Attempt.Went cpu new state after = Unit {0}
 UndoesUnlessWent (Attempt.Print byte) cpu new state after = Unit {0}
 UndoesUnlessWent _ cpu new state after = (new ≡ cpu) × (after ≡ state)
-
--- the access of a fault is of 1 to 64 bytes
-abbrev pub IsOfFewBytes : Attempt → Type 0
-IsOfFewBytes (Attempt.Fault fault access) = (0 < access.bytes) × (access.bytes ≤ 64)
-IsOfFewBytes _ = Unit {0}

@@ -2,11 +2,10 @@ ghost use Rattle.std.specs.Prelude.{◌≡◌, ◌<◌, length};
 ghost use Rattle.std.specs.Option.{ForSome};
 ghost use Rattle.flat_machine.specs.Access.{FitsFrom, IsAccess};
 ghost use Rattle.flat_machine.specs.Pending.{planned, IsSoundPending, StaysIfPending};
-ghost use Rattle.flat_machine.specs.Plans.{Does};
 ghost use Rattle.flat_machine.specs.declared.machine.Act.{Act};
 ghost use Rattle.romp_cpu.specs.Shown.{halfword_of};
-ghost use Rattle.romp_cpu.specs.Tried.{at, how_went, linked, tried, IsDoneIf};
-ghost use Rattle.romp_cpu.specs.Attempts.{left_as, plan_over, seen_of, GivesEveryRow, TriesAct, TriesNext, UndoesUnlessWent, IsOfFewBytes, StoresAll};
+ghost use Rattle.romp_cpu.specs.Tried.{at, how_went, linked, tried};
+ghost use Rattle.romp_cpu.specs.Attempts.{left_as, plan_over, seen_of, DoesIf, GivesNext, TriesAct, TriesNext, UndoesUnlessWent, IsOfFewBytes, StoresAll};
 
 use super::storage::{Access, Fault, Probe, Storage};
 use flat_machine::{Act, Cs, Fetch, Pending, do_alone, start_row, start_wanting};
@@ -60,7 +59,7 @@ impl Cpu {
     #[inline(always)]
     pub fn attempt<S: Storage>(&mut self, storage: &mut S) -> Attempt
         ensures tried { TriesNext S.Storage storage.old storage.new self.old self.new result }
-        ensures row { GivesEveryRow self.old (seen_of S.Storage storage.old) (left_as S.Storage result self.new storage.new) }
+        ensures row { GivesNext S.Storage storage.old storage.new self.old self.new result }
         ensures undone { UndoesUnlessWent result self.old self.new (S.state storage.old) (S.state storage.new) }
         ensures few { IsOfFewBytes result }
         ensures whole { StoresAll (plan_over S.Storage storage.old self.old) }
@@ -78,7 +77,7 @@ impl Cpu {
     #[inline(always)]
     pub fn step<S: Storage>(&mut self, storage: &mut S, iar: &mut u32, went: &mut Attempt) -> bool
         ensures tried { TriesNext S.Storage storage.old storage.new (at self.old iar.old) (at self.new iar.new) (how_went result went.new) }
-        ensures row { GivesEveryRow (at self.old iar.old) (seen_of S.Storage storage.old) (left_as S.Storage (how_went result went.new) (at self.new iar.new) storage.new) }
+        ensures row { GivesNext S.Storage storage.old storage.new (at self.old iar.old) (at self.new iar.new) (how_went result went.new) }
         ensures few { IsOfFewBytes (how_went result went.new) }
         ensures whole { StoresAll (plan_over S.Storage storage.old (at self.old iar.old)) }
     {
@@ -150,7 +149,7 @@ impl Cpu {
     ) -> bool
         requires access { IsAccess act }
         requires link { ForSome link (λ written. written.0 < 16) }
-        ensures { IsDoneIf result (seen_of S.Storage storage.old) self.old (Does self.old.regs self.old.cs act next link) self.new (S.state storage.new) }
+        ensures { DoesIf S.Storage storage.old storage.new self.old self.new act next link result }
     {
         let did = match act {
             Act::Nothing => true,
@@ -189,8 +188,7 @@ impl Cpu {
     )
         requires fits { FitsFrom bytes to }
         requires link { ForSome link (λ written. written.0 < 16) }
-        ensures tried { TriesAct S.Storage storage.old storage.new self.old self.new (Act.Load address bytes to sign) next link went.new }
-        ensures few { IsOfFewBytes went.new }
+        ensures { TriesAct S.Storage storage.old storage.new self.old self.new (Act.Load address bytes to sign) next link went.new }
     {
         let access = Access {
             address,
@@ -218,8 +216,7 @@ impl Cpu {
     )
         requires fits { FitsFrom bytes from }
         requires link { ForSome link (λ written. written.0 < 16) }
-        ensures tried { TriesAct S.Storage storage.old storage.new self.old self.new (Act.Store address bytes from) next link went.new }
-        ensures few { IsOfFewBytes went.new }
+        ensures { TriesAct S.Storage storage.old storage.new self.old self.new (Act.Store address bytes from) next link went.new }
     {
         let access = Access {
             address,
@@ -249,7 +246,7 @@ impl Cpu {
     /// where there is one, and else the instruction is decoded.
     #[inline(always)]
     fn start<S: Storage>(&mut self, storage: &S) -> Pending
-        ensures value { plan_over S.Storage storage.now self.old ≡ planned self.new.regs self.new.cs result }
+        ensures plan { plan_over S.Storage storage.now self.old ≡ planned self.new.regs self.new.cs result }
         ensures stays { StaysIfPending result self.old.regs self.new.regs self.old.cs self.new.cs }
         ensures sound { IsSoundPending result }
         ensures long { length self.new.regs ≡ 16 }
@@ -294,8 +291,7 @@ impl Cpu {
     )
         requires access { IsAccess act }
         requires link { ForSome link (λ written. written.0 < 16) }
-        ensures tried { TriesAct S.Storage storage.old storage.new self.old self.new act next link went.new }
-        ensures few { IsOfFewBytes went.new }
+        ensures { TriesAct S.Storage storage.old storage.new self.old self.new act next link went.new }
     {
         *went = match act {
             Act::Nothing => self.go_on(next, link),

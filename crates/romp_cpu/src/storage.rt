@@ -8,7 +8,7 @@ ghost use Rattle.page_table.specs.declared.segment_regs.Virtual.{Virtual};
 ghost use Rattle.romp_cpu.specs.declared.storage.Access.{Access};
 ghost use Rattle.romp_cpu.specs.declared.storage.Probe.{Probe};
 ghost use Rattle.romp_cpu.specs.Shown.{bytes_from, halfword_of};
-ghost use Rattle.romp_cpu.specs.Answers.{answer_in, FitsRegisters, if_permitted, IsOutside, MayAccess};
+ghost use Rattle.romp_cpu.specs.Answers.{Admits, answer_in, FitsRegisters, if_permitted, IsOutside};
 
 use flat_machine::Ready;
 use page_table::Virtual;
@@ -82,13 +82,13 @@ pub trait Storage {
 
     /// Fills the slice with the bytes from an address on, an access that is permitted.
     fn load(&self, address: u32, into: &mut [u8])
-        requires { MayAccess registers is_in_frame refuses (state self.now) address (length into.old) false }
+        requires { Admits registers is_in_frame refuses (state self.now) address (length into.old) false }
         ensures { into.new ≡ bytes_from (byte_at (state self.now)) address (length into.old) };
 
     /// Stores bytes from an address on, an access that is permitted. The range then shows them, and other addresses change
     /// only where they name the same byte through another register. No access gets another answer.
     fn store(&mut self, address: u32, from: &[u8])
-        requires { MayAccess registers is_in_frame refuses (state self.old) address (length from.now) true }
+        requires { Admits registers is_in_frame refuses (state self.old) address (length from.now) true }
         ensures state { state self.new ≡ stored (state self.old) address from.now }
         ensures shows { bytes_from (byte_at (state self.new)) address (length from.now) ≡ from.now }
         ensures others { (other : ℕ) → IsOutside (registers (state self.old)) address (length from.now) other → byte_at (state self.new) other ≡ byte_at (state self.old) other }
@@ -105,14 +105,14 @@ pub trait Storage {
     /// does nothing.
     fn read_known(&self, address: u32, bytes: u8, to: u8, sign: bool, regs: &mut [u32; 16]) -> bool
         requires { FitsFrom bytes to }
-        ensures permitted { result ≡ true → MayAccess registers is_in_frame refuses (state self.now) address bytes false }
+        ensures permitted { result ≡ true → Admits registers is_in_frame refuses (state self.now) address bytes false }
         ensures registers { regs.new ≡ (if result then filled to sign (bytes_from (byte_at (state self.now)) address bytes) regs.old else regs.old) };
 
     /// Does what `write` does for so many bytes from an address on, where it is known at once that this is permitted. Else it
     /// does nothing.
     fn write_known(&mut self, address: u32, bytes: u8, from: u8, regs: &[u32; 16]) -> bool
         requires { FitsFrom bytes from }
-        ensures permitted { result ≡ true → MayAccess registers is_in_frame refuses (state self.old) address bytes true }
+        ensures permitted { result ≡ true → Admits registers is_in_frame refuses (state self.old) address bytes true }
         ensures state { state self.new ≡ (if result then stored (state self.old) address (stored_bytes regs.now bytes from) else state self.old) };
 
     /// Stores the bytes of registers from one upwards, as `store` does, if `probe` permits the access.
