@@ -1,6 +1,6 @@
 -- An attempt over the unit, beside the row of the plain machine on one list of bytes of the store.
 use Rattle.std.specs.Prelude.{◌≢◌, ◌≡◌, ℕ, ◌+◌, ◌<◌, ◌≤◌, ◌||◌, Bool, true, false, List, [], ◌∷◌, ◌++◌, length}
-use Rattle.storage_unit.specs.Below.{Access, byte_count, Commit, halfword_of, has, IsOfFewBytes, Lines, lines_of_access, On, page_of_line, plan, Pool, row, seen_in, touched, Tried, tried}
+use Rattle.storage_unit.specs.Below.{Access, at, byte_count, Commit, halfword_of, has, how_went, IsOfFewBytes, Lines, lines_of_access, On, page_of_line, plan, Pool, row, seen_in, touched, Tried, tried}
 use Rattle.flat_machine.specs.declared.machine.Plain.{Plain}
 use Rattle.flat_machine.specs.declared.machine.Program.{Program}
 use Rattle.flat_machine.specs.Row.{Check}
@@ -106,10 +106,10 @@ abbrev pub LeavesSeats : (old new : Reach) → Type 0
 LeavesSeats old new = (seat : ℕ) → seat < 16 → (seat + 1 ≢ old.runner) → private_bytes new.pool seat ≡ private_bytes old.pool seat
 
 -- What a step of a processor over a unit comes to, where it went so.
-pub record StepsOver (old new : Unit) (before after : Cpu) (attempt : Attempt) : Type 0 where
-  pub tried : record { attempt = attempt; cpu = after; state = reach_of new } ≡ tried_over (reach_of old) before
-  pub row : GivesRows attempt before after (reach_of old) (reach_of new)
+pub record StepsOver (old new : Unit) (from to : Cpu) (iar next : ℕ) (at_once : Bool) (told : Attempt) : Type 0 where
+  pub tried : record { attempt = how_went at_once told; cpu = at to next; state = reach_of new } ≡ tried_over (reach_of old) (at from iar)
+  pub row : GivesRows (how_went at_once told) (at from iar) (at to next) (reach_of old) (reach_of new)
   pub kept : ChangesBytes (reach_of old) (reach_of new)
   pub clean : StaysClean (reach_of old) (reach_of new)
   pub seats : LeavesSeats (reach_of old) (reach_of new)
-  pub few : IsOfFewBytes attempt
+  pub few : IsOfFewBytes (how_went at_once told)

@@ -1,6 +1,6 @@
 // The unit as a storage.
 ghost use Rattle.std.specs.Prelude.{◌≡◌, ◌+◌, ◌≤◌, true, false, IfSome};
-ghost use Rattle.storage_unit.specs.Below.{at, FitsRegisters, how_went};
+ghost use Rattle.storage_unit.specs.Below.{FitsRegisters};
 ghost use Rattle.storage_unit.specs.ReadyRows.{IsMadeOf};
 ghost use Rattle.storage_unit.specs.Reach.{is_in_frame, refuses};
 ghost use Rattle.storage_unit.specs.Rows.{StepsOver};
@@ -214,7 +214,7 @@ impl Unit {
     /// True: it went at once. Else `went` says how.
     #[inline(always)]
     pub fn step(&mut self, cpu: &mut Cpu, iar: &mut u32, went: &mut Attempt) -> bool
-        ensures { StepsOver self.old self.new (at cpu.old iar.old) (at cpu.new iar.new) (how_went result went.new) }
+        ensures { StepsOver self.old self.new cpu.old cpu.new iar.old iar.new result went.new }
     {
         cpu.step(self, iar, went)
     }
