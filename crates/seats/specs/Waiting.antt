@@ -1,10 +1,11 @@
 -- Who waits for whom.
-use Rattle.std.specs.Prelude.{ℕ, Bool, false, List, All, filter, map, slice_index_or, Option}
+use Rattle.std.specs.Prelude.{◌≡◌, ℕ, ◌<◌, Bool, false, List, length, All, filter, map, slice_index_or, Option}
 use Rattle.std.specs.Option.{option_map, option_map_or}
 use Rattle.lines.specs.LineSets.{IsOfPage}
 use Rattle.lines.specs.Waits.{shown_cycle}
 use Rattle.seats.specs.declared.request.Want.{Want}
 use Rattle.seats.specs.Holding.{is_in_conflict}
+use Rattle.seats.specs.Rows.{waits_in}
 use Rattle.seats.specs.Seating.{Seating, sitter, number_in}
 
 -- the numbers of the activations in taken seats with which a request of a seat conflicts, ascending
@@ -22,6 +23,11 @@ cycle_of seating seat = option_map (map (number_in seating)) (shown_cycle (seat_
 -- the seat at a place in the order of those that are taken
 abbrev pub seat_at : Seating → (place : ℕ) → ℕ
 seat_at seating place = slice_index_or seating.taken place 0
+
+-- these are the rows of who waits for whom, by place
+abbrev pub AreWaits : Seating → List ℕ → Type 0
+AreWaits seating rows =
+    (from to : ℕ) → from < length seating.taken → to < length seating.taken → waits_in rows from to ≡ seat_waits seating (seat_at seating from) (seat_at seating to)
 
 -- the lines that are wanted of a page are lines of a page
 pub record AreOfPage (wants : List Want) : Type 0 where

@@ -1,11 +1,11 @@
 // Who waits for whom.
-ghost use Rattle.std.specs.Prelude.{◌≡◌, ◌<◌, true, ℕ, length, map};
+ghost use Rattle.std.specs.Prelude.{◌≡◌, ◌<◌, true, length, map};
 ghost use Rattle.std.specs.Option.{option_map};
 ghost use Rattle.lines.specs.Sets.{has};
-ghost use Rattle.seats.specs.Rows.{AreOn, is_on, waits_in};
+ghost use Rattle.seats.specs.Rows.{AreOn, is_on};
 ghost use Rattle.seats.specs.Held.{AreWithin};
 ghost use Rattle.seats.specs.Seating.{IsSeating};
-ghost use Rattle.seats.specs.Waiting.{holders, seat_waits, cycle_of, seat_at};
+ghost use Rattle.seats.specs.Waiting.{AreWaits, holders, seat_waits, cycle_of, seat_at};
 
 use super::request::Request;
 use super::seats::Seats;
@@ -62,7 +62,7 @@ impl Seats {
     /// For each place among the taken seats the bits of the places that the one there waits for.
     fn rows_of_waits(&self) -> ArrayVec<u16, 16>
         ensures long { length result.items ≡ length self.now.taken }
-        ensures rows { (from to : ℕ) → from < length self.now.taken → to < length self.now.taken → waits_in result.items from to ≡ seat_waits self.now (seat_at self.now from) (seat_at self.now to) }
+        ensures rows { AreWaits self.now result.items }
     {
         let mut rows = ArrayVec::new();
         for seat in self.taken() {
