@@ -19,8 +19,7 @@ byte_count directory = sum_by (bytes_of (page_bytes directory.page)) directory.s
 
 -- the length of the segment with this identifier
 abbrev pub length_of : Layout → ℕ → Option ℕ
-length_of directory identifier =
-    option_map (bytes_of (page_bytes directory.page)) (find (is_named identifier) directory.segments)
+length_of directory identifier = option_map (bytes_of (page_bytes directory.page)) (find (is_named identifier) directory.segments)
 
 -- where the segment with this identifier begins: the sum of the lengths before it
 abbrev pub start_of : Layout → ℕ → ℕ

@@ -59,8 +59,7 @@ bits-told-step n k told = by_bit (bit_at n 0 == 1) refl
 
     by_bit : (on : Bool) → (bit_at n 0 == 1) ≡ on → bits_of (cond on (0 ∷ filter (is_on n) (range_with_len 1 k)) (filter (is_on n) (range_with_len 1 k))) ≡ n
     by_bit true is = let low : bit_at n 0 ≡ 1 = eqb-true (bit_at n 0) 1 is in omega (arith, half, bit_at_lowest n)
-    by_bit false is =
-        let low : bit_at n 0 ≢ 1 = eqb-false (bit_at n 0) 1 is in omega (arith, half, bit_at_lowest n)
+    by_bit false is = let low : bit_at n 0 ≢ 1 = eqb-false (bit_at n 0) 1 is in omega (arith, half, bit_at_lowest n)
 
 bits-told-none : (n : ℕ) → n < 1 → bits_of (passing 0 (is_on n)) ≡ n
 unfolding passing
