@@ -132,7 +132,7 @@ impl Unit {
     fn row_at(&self, address: u32) -> Option<Ready>
         requires { 1 ≤ (reach_of self.now).runner }
         ensures within { IfSome result (λ row. address + 4 ≤ 16384) }
-        ensures row { IfSome result (IsMadeOf (reach_of self.now).pool.bytes (reach_of self.now).runner address) }
+        ensures row { IfSome result (IsMadeOf self.now.pool.bytes self.now.runner address) }
     {
         let first = self.fetch(address)?;
         let second = self.fetch(address + 2)?;
