@@ -363,13 +363,8 @@ module _ (a : Activity) (program : ℕ) (args : List ℕ) (sound : IsSound a) wh
       (subst (λ (t : Begun). IsBegin a (begun.begins a program args).1 program args t committed) (sym is_told) (is-begin a program args sound known committed follows fits))
 
 -- what a begin says of what it answers and leaves
-pub record BeginsSo (a : Activity) (program : ℕ) (args : List ℕ) (told : Begun) (now : Activity) : Type 0 where
-  pub answer : told ≡ (begun.begins a program args).0
-  pub left : now ≡ (begun.begins a program args).1
-  pub is_begin : (committed : List ℕ) → KeepsDesk a committed → IsBegin a now program args told committed
-
 pub begun-so : (a : Activity) (program : ℕ) (args : List ℕ) (told : Begun) (now : Activity) → IsSound a → program < length a.programs → Fits a.reach.directory a.reach.pool → begun.begins a program args ≡ (told, now)
-    → BeginsSo a program args told now
+    → begun.BeginsSo a program args told now
 begun-so a program args told now sound known fits is =
     let answer : told ≡ (begun.begins a program args).0 = sym (ap (λ (b : Begun × Activity). b.0) is) in
     let left : now ≡ (begun.begins a program args).1 = sym (ap (λ (b : Begun × Activity). b.1) is) in

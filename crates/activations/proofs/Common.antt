@@ -98,6 +98,7 @@ pub use Rattle.store.specs.Kept.{begun_of, record_bytes_of, with_line}
 pub use Rattle.store.specs.KeptStore.{KeptStore, with_begun}
 pub use Rattle.romp_cpu.specs.Attempts.{IsOfFewBytes, lines_of_access}
 pub use Rattle.romp_cpu.specs.Segments.{registers_of_program}
+pub use Rattle.romp_cpu.specs.Tried.{at, how_went}
 pub use Rattle.romp_cpu.specs.declared.cpu.Cpu.{Cpu}
 pub use Rattle.romp_cpu.specs.declared.storage.Access.{Access}
 pub use Rattle.seats.proofs.Ascending.{all-has, none-free, some-free}
@@ -118,19 +119,20 @@ pub use Rattle.storage_unit.proofs.UnitLemmas.{program-reached, unit-sound}
 pub use Rattle.storage_unit.specs.Bytes.{IsClean, byte_in_frame, byte_over, bytes_over, is_line_marked, is_marked, private_bytes}
 pub use Rattle.storage_unit.specs.Laws.{Fits, Keeps, SettleKeeps, UndoForgets, filled, is_among, page_in}
 pub use Rattle.storage_unit.specs.Places.{is_private, offset_of, place_at, private_segment}
-pub use Rattle.storage_unit.specs.Rows.{ChangesBytes, GivesRows, GoesOpen, HasWindows, IsOpen, IsOpenLine, IsRow, LeavesSeats, StaysClean, plain_over}
+pub use Rattle.storage_unit.specs.Rows.{ChangesBytes, GivesRows, GoesOpen, HasWindows, IsOpen, IsOpenLine, IsRow, LeavesSeats, StaysClean, plain_over, IsShutOut}
+pub use Rattle.storage_unit.specs.Served.{begun, ended}
 pub use Rattle.storage_unit.specs.View.{reach_of}
 pub use Rattle.storage_unit.specs.declared.model.Reach.{Reach}
 pub use Rattle.store_format.specs.Bank.{RecordLine, record_bytes}
 pub use Rattle.store_format.specs.Header.{Header, entry_bytes, most_lines, total}
 pub use Rattle.store_format.specs.Stands.{Damaged, NotAStore, Standing, Stands, laid}
 unfoldable pub use Rattle.store_format.specs.Stands.{stands}
-pub use Rattle.activations.specs.Activity.{Activity, authority_at, flat_authority, authority_told, authority_under, desk_over, entries, entry_for, entry_in, lines_held, live_in, locks_in, no_program, nothing_runs, number_under, program_at, program_in, request_for, request_in, shown, state_for, state_in, store_over}
+pub use Rattle.activations.specs.Activity.{Activity, first_live, authority_at, flat_authority, authority_told, authority_under, desk_over, entries, entry_for, entry_in, lines_held, live_in, locks_in, no_program, nothing_runs, number_under, program_at, program_in, request_for, request_in, shown, state_for, state_in, store_over}
 pub use Rattle.activations.specs.Kept.{CameTo, IsSelected, IsShut, IsStopped, Strode, TookEffect, WasAttempted, WillTouch, attempted, plain_in, printed_after, KeepsParts, StandsStill, StaysSeated, RunsAt, StrodeTo, with_live, standing}
-pub use Rattle.activations.specs.Begins.{Begins, IsBegin, begun_in, given, idle, started, begins}
-pub use Rattle.activations.specs.Steps.{HasSettled, HasUndone, IsDeserted, IsRestarted, WereRolled, reprinted, AreAsCommitted, AreWritten, Commits, GoesOn, HasExecuted, IsMoved, RollsBack, Strides, WereSettled, WereUndone, counted, executed, is_of, rolled, vacated, with_pool, wrote, IsRolledBack, IsCommitted}
-pub use Rattle.activations.specs.Stages.{HasBrokenOff, IsBrokenOff, IsIn, IsStoreOf, IsUnread, KeepsStore, EndsByDisk, EndsContest, EndsRows, Fetches, HasFetched, KeepsAll, EndsServing, IsCheckCode, IsNoLimit}
-pub use Rattle.activations.specs.Follows.{AreOfPages, KeepsDesk, IsIdentified, IsKept, IsSetUp, IsSound}
+pub use Rattle.activations.specs.Begins.{Begins, BeginsSo, HasNobody, IsBegin, begun_in, given, idle, started, begins}
+pub use Rattle.activations.specs.Steps.{HasSettled, HasUndone, IsDeserted, IsRestarted, WereRolled, reprinted, AreAsCommitted, AreWritten, Commits, GoesOn, HasExecuted, IsMoved, RollsBack, Strides, WereSettled, WereUndone, counted, executed, is_of, rolled, vacated, with_pool, wrote, IsRolledBack, IsCommitted, IsUndone}
+pub use Rattle.activations.specs.Stages.{HasBrokenOff, IsBrokenOff, IsIn, IsStoreOf, IsUnread, KeepsPool, EndsByDisk, EndsContest, EndsRows, Fetches, HasFetched, KeepsAll, EndsServing, IsCheckCode, IsNoLimit}
+pub use Rattle.activations.specs.Follows.{AreOfPages, KeepsDesk, IsIdentified, IsKept, IsSetUp, IsSound, HasFrames}
 pub use Rattle.activations.specs.Turning.{GoesUncounted, IsAsked, IsEndOfRows, IsInstruction, IsPrepared, IsServed, Prepares, Serves, Contests, HasBroken, HasEnded, tally_counts, FromContest, AreTurns, ComesBack, IsAtCommit, IsStep, IsTurning, MayBeShut, commit_call, selected_in, turn_in}
 pub use Rattle.activations.specs.Recorded.{HasWritten, IsRecordOf, LeavesCommitted, line_told, recorded, with_lines, written_of}
 pub use Rattle.activations.specs.Serving.{AreTouched, IsFetched, IsToServe, attempt_in, counted_with, lines_with, AreGranted, AreLowered, AreSet, Goes, IsContested, IsFree, ComesToEnd, WereRefused, asking, authority_given, authority_to_read, instruction_in, is_lowered, locked, pages_lowered, with_entries}

@@ -1,5 +1,5 @@
 -- Pages of a touch that come in from the store on the disk, one after the other, or that break off.
-use Rattle.activations.proofs.Common.{IsSeen, asks_none, length-replicate, replicate, ◌⊎◌, inr, inl, not-true, or_parts, arith, ap, sym, ◌∙◌, subst, ltb-false, PageSize, Layout, byte_count, page_count, page_bytes, byte_count-lines, brought, has, has_left, overlaid, Ghosts, OnlyAsks, FewerLater, held_of, Standing, Stands, NotAStore, Damaged, stands, KeptStore, Pool, private_frames, line_place, reach_of, IsClean, private_bytes, Fits, Keeps, filled, page_in, frame-high, laid-bytes, room-stays, emptied-stays, IsStoreOf, IsIn, IsMoved, ◌≡◌, refl, ℕ, ◌+◌, ◌-◌, ◌*◌, ◌<◌, ◌≤◌, ◌==◌, ◌++◌, not, nat_lt, if◌then◌else◌, Bool, true, false, List, [], ◌∷◌, length, take, drop, fold, remove, position, unwrap_or, slice_index, Option, Some, None, option_to_list, Result, Ok, Err, OnOk, OnErr, take-append-le, take-take, length-append, length-take, Brought, frame_at, marks_at, with_bytes, emptied, line_laid, line_kept, has-remove_other, turned, KeepsStore, IsErrAnd, eq-eqb, ne_eqb, has_right, Word, Fine, ReadFailed, Fetching, Fetched, Broken, can't_be_read, fetches, Activity, IsUnread, IsBrokenOff, Touch, Want, pages_wanted, wants_of, nat_tests, Fetches, HasFetched}
+use Rattle.activations.proofs.Common.{IsSeen, asks_none, length-replicate, replicate, ◌⊎◌, inr, inl, not-true, or_parts, arith, ap, sym, ◌∙◌, subst, ltb-false, PageSize, Layout, byte_count, page_count, page_bytes, byte_count-lines, brought, has, has_left, overlaid, Ghosts, OnlyAsks, FewerLater, held_of, Standing, Stands, NotAStore, Damaged, stands, KeptStore, Pool, private_frames, line_place, reach_of, IsClean, private_bytes, Fits, Keeps, filled, page_in, frame-high, laid-bytes, room-stays, emptied-stays, IsStoreOf, IsIn, IsMoved, ◌≡◌, refl, ℕ, ◌+◌, ◌-◌, ◌*◌, ◌<◌, ◌≤◌, ◌==◌, ◌++◌, not, nat_lt, if◌then◌else◌, Bool, true, false, List, [], ◌∷◌, length, take, drop, fold, remove, position, unwrap_or, slice_index, Option, Some, None, option_to_list, Result, Ok, Err, OnOk, OnErr, take-append-le, take-take, length-append, length-take, Brought, frame_at, marks_at, with_bytes, emptied, line_laid, line_kept, has-remove_other, turned, KeepsPool, IsErrAnd, eq-eqb, ne_eqb, has_right, Word, Fine, ReadFailed, Fetching, Fetched, Broken, can't_be_read, fetches, Activity, IsUnread, IsBrokenOff, Touch, Want, pages_wanted, wants_of, nat_tests, Fetches, HasFetched}
 use Rattle.std.proofs.lemmas.List.Quantifiers.{position-Some}
 use Rattle.store_format.proofs.Fronts.{shorter_front, later_front}
 use Rattle.store_format.proofs.Stores.{stands_is}
@@ -195,7 +195,7 @@ module _ (unit : Unit) (page : ℕ) (keep : Option ℕ) where
     came-resident came = (came-filled came).1.resident
 
     pub came-keeps : store.header.directory ≡ unit.directory → page < page_count unit.directory → has unit.pool.resident page ≡ false → Came
-        → KeepsStore G store old unit.directory (reach_of unit).pool new
+        → KeepsPool G store old unit.directory (reach_of unit).pool new
     came-keeps same below absent came committed is clean = by_way came
       where
         long : length committed ≡ byte_count unit.directory
@@ -285,7 +285,7 @@ module _ (old mid : Pool) (first second before between : ℕ) (came : IsIn old m
 
 -- Over what runs, whose frames came to another pool, pages came in, or broke off.
 module _ {W : Type 0} (G : Ghosts W) (store : KeptStore) (outside : W) (a : Activity) (pages : List ℕ) (before after : ℕ) (new : Pool) (moved : IsMoved a.reach.pool new)
-    (keeps : KeepsStore G store outside a.reach.directory a.reach.pool new) where
+    (keeps : KeepsPool G store outside a.reach.directory a.reach.pool new) where
   is-fetched : ((page : ℕ) → has pages page ≡ true → has new.resident page ≡ true)
       → fetches Fine a.reach.pool.frames pages pages a.reach.pool.resident before ≡ Fetched new.resident after → HasFetched G store outside a pages before new after
   is-fetched there fetched = record { moved = moved; resident = there; fetched = λ committed order is clean. record { moved = moved; keeps = keeps committed is clean; fetched = fetched } }
@@ -304,7 +304,7 @@ none-fetched G store outside a touch before is =
 
 -- pages of two steps keep what all see
 pub keeps-both : {W : Type 0} (G : Ghosts W) (fewer_later : FewerLater G) (store : KeptStore) (outside between : W) (directory : Layout) (old mid new : Pool) → OnlyAsks G outside between
-    → KeepsStore G store outside directory old mid → KeepsStore G store between directory mid new → KeepsStore G store outside directory old new
+    → KeepsPool G store outside directory old mid → KeepsPool G store between directory mid new → KeepsPool G store outside directory old new
 keeps-both G fewer_later store outside between directory old mid new asks first second committed is clean =
     let one = first committed is clean in
     let two = second committed (store-on G fewer_later store outside between committed asks is) one.clean in
@@ -320,7 +320,7 @@ if-err P Q (Ok value) is leads = is
 if-err P Q (Err fault) is leads = leads is
 
 -- A touch of one page.
-one-comes : {T E W : Type 0} (G : Ghosts W) (store : KeptStore) (outside : W) (a : Activity) (new : Pool) (page before after : ℕ) → IsMoved a.reach.pool new → KeepsStore G store outside a.reach.directory a.reach.pool new
+one-comes : {T E W : Type 0} (G : Ghosts W) (store : KeptStore) (outside : W) (a : Activity) (new : Pool) (page before after : ℕ) → IsMoved a.reach.pool new → KeepsPool G store outside a.reach.directory a.reach.pool new
     → (result : Result T E) → OnOk result (IsIn a.reach.pool new page None before after) → OnErr result (IsUnread a.reach.pool new page before after) → Fetches result G store outside a (page ∷ []) before new after
 one-comes G store outside a new page before after moved keeps (Ok it) came not =
     is-fetched G store outside a (page ∷ []) before after new moved keeps (one-there a.reach.pool new page None before after came)
@@ -329,14 +329,14 @@ one-comes G store outside a new page before after moved keeps (Err failed) came 
     is-broken G store outside a (page ∷ []) before after new moved keeps not.none (omega (arith, not.counted)) (unread-broken a.reach.pool new page before after (page ∷ []) [] not)
 
 pub one-fetches : {T E W : Type 0} (G : Ghosts W) (store : KeptStore) (outside : W) (a : Activity) (new : Pool) (touch : Touch) (only : Want) → touch ≡ Touch.One only → (before after : ℕ)
-    → IsMoved a.reach.pool new → KeepsStore G store outside a.reach.directory a.reach.pool new → (result : Result T E) → OnOk result (IsIn a.reach.pool new only.page None before after)
+    → IsMoved a.reach.pool new → KeepsPool G store outside a.reach.directory a.reach.pool new → (result : Result T E) → OnOk result (IsIn a.reach.pool new only.page None before after)
     → OnErr result (IsUnread a.reach.pool new only.page before after) → Fetches result G store outside a (pages_wanted (wants_of touch)) before new after
 one-fetches G store outside a new touch only is before after moved keeps result came not =
     subst (λ (t : Touch). Fetches result G store outside a (pages_wanted (wants_of t)) before new after) (sym is) (one-comes G store outside a new only.page before after moved keeps result came not)
 
 -- And of two, the first of which came to a pool.
 module _ {W : Type 0} (G : Ghosts W) (store : KeptStore) (outside : W) (a : Activity) (mid : Pool) (touch : Touch) (first second : Want) (is : touch ≡ Touch.Two first second) (before between : ℕ)
-    (moved : IsMoved a.reach.pool mid) (keeps : KeepsStore G store outside a.reach.directory a.reach.pool mid) where
+    (moved : IsMoved a.reach.pool mid) (keeps : KeepsPool G store outside a.reach.directory a.reach.pool mid) where
   pub first-broken : IsUnread a.reach.pool mid first.page before between
       → (committed : List ℕ) (order : List (ℕ × ℕ)) → IsStoreOf G store outside committed → IsClean a.reach.directory a.reach.pool committed → IsBrokenOff a committed order (pages_wanted (wants_of touch)) before mid between
   first-broken unread committed order is_store clean =
@@ -346,9 +346,9 @@ module _ {W : Type 0} (G : Ghosts W) (store : KeptStore) (outside : W) (a : Acti
 
   -- then the second
   module _ (fewer_later : FewerLater G) (later : W) (asks : OnlyAsks G outside later) (came : IsIn a.reach.pool mid first.page (Some second.page) before between) (directory : Layout) (same : directory ≡ a.reach.directory)
-      (new : Pool) (after : ℕ) (also : IsMoved mid new) (still : KeepsStore G store later directory mid new) where
-    both-keep : KeepsStore G store outside a.reach.directory a.reach.pool new
-    both-keep = keeps-both G fewer_later store outside later a.reach.directory a.reach.pool mid new asks keeps (subst (λ (d : Layout). KeepsStore G store later d mid new) same still)
+      (new : Pool) (after : ℕ) (also : IsMoved mid new) (still : KeepsPool G store later directory mid new) where
+    both-keep : KeepsPool G store outside a.reach.directory a.reach.pool new
+    both-keep = keeps-both G fewer_later store outside later a.reach.directory a.reach.pool mid new asks keeps (subst (λ (d : Layout). KeepsPool G store later d mid new) same still)
 
     two-come : {T E : Type 0} (result : Result T E) → OnOk result (IsIn mid new second.page (Some first.page) between after) → OnErr result (IsUnread mid new second.page between after)
         → Fetches result G store outside a (first.page ∷ second.page ∷ []) before new after

@@ -2,7 +2,6 @@
 use Rattle.activations.proofs.Common.{PageSize, page_bytes, line_bytes, frame_count, line_place, entry_bytes, record_bytes, ◌≡◌, ℕ, ◌+◌, ◌-◌, ◌*◌, ◌/◌, ◌%◌, ◌<◌, ◌≤◌, arith, refl, ◌==◌, nat_lt, not, cond, Bool, true, List, [], ◌∷◌, length, Some, None, position_or_len, ap, eq-eqb, or_left, or_right, has, ◌||◌, if◌then◌else◌, false, ◌++◌, slice_index_or, option_to_list, remove, unwrap_or, sym, ◌∙◌, subst, page_of_line, brought, Pool, IsState, IsCurrent, IsOrderly, taken-below, Keeps, Activity, entry_in, entries, store_over, desk_over, state_in, IsSound, IsKept, KeepsDesk, IsMoved, with_pool, differs, Option, is_some, get_or_past, page_count, reach_of, AreDistinct}
 use Rattle.std.specs.Prelude.{IsTrue}
 use Rattle.activations.specs.Follows.{HasFrames}
-use Rattle.desk_law.specs.Consistent.{AreResident}
 use Rattle.frame_pool.specs.Sound.{is_apart}
 use Rattle.storage_unit.specs.declared.unit.Unit.{Unit}
 

@@ -1,5 +1,5 @@
 -- The lines that an access touches, page by page, and how many will have been written with them.
-use Rattle.activations.proofs.Common.{◌==◌, range_with_len, nat_tests, passing, between, append-nil, get_or-map-range_with_len, flat_lines, lines_wanted, lines_between, pages_of, ◌≡◌, ℕ, ◌+◌, ◌-◌, ◌*◌, ◌/◌, ◌%◌, ◌<◌, ◌≤◌, Bool, true, false, List, [], ◌∷◌, ◌++◌, refl, sym, ◌∙◌, ap, arith, map, get_or, or_parts, subst, eq-eqb, ne_eqb, both_ways, length-range_with_len, sum_by-le, All-nil, All-cons, All-head, All-tail, All-get_or, All-from_get_or, PageSize, Two, Four, Layout, start_of, length_of, byte_count, page_count, IsLegal, line_of, line_count, difference, IsOfPage, line_bytes, of_page_where, line-below, segment-within, has, Lines, no_lines, Want, nothing, write_count, AreWithin, of_seat, held_at, Program, in_segment, in_register, located, lines_at, Registers, located_by, virtual_at, Access, lines_of_access, registers_of_program, AreDistinct, filter-short, AreOfPage, private_segment, is_private, offset_of, place_at, Activity, live_in, program_in, AreOfPages, IsSound, lines_with, Touch, pages_wanted, wants_of, AreWanted, zero, suc, ◌^◌, ◌||◌, ◌&&◌, nat_le, if◌then◌else◌, length, Option, Some, None, Result, Ok, Err, Located, Private, Shared, Refused}
+use Rattle.activations.proofs.Common.{◌==◌, range_with_len, nat_tests, passing, between, append-nil, get_or-map-range_with_len, flat_lines, lines_wanted, lines_between, pages_of, ◌≡◌, ℕ, ◌+◌, ◌-◌, ◌*◌, ◌/◌, ◌%◌, ◌<◌, ◌≤◌, Bool, true, false, List, [], ◌∷◌, ◌++◌, refl, sym, ◌∙◌, ap, arith, map, get_or, or_parts, subst, eq-eqb, ne_eqb, both_ways, length-range_with_len, sum_by-le, All-nil, All-cons, All-head, All-get_or, All-from_get_or, PageSize, Two, Four, Layout, start_of, length_of, byte_count, page_count, IsLegal, line_of, line_count, difference, IsOfPage, line_bytes, of_page_where, line-below, segment-within, has, Lines, no_lines, Want, nothing, write_count, of_seat, held_at, Program, in_segment, in_register, located, lines_at, Registers, located_by, virtual_at, Access, lines_of_access, registers_of_program, AreDistinct, filter-short, AreOfPage, private_segment, is_private, offset_of, place_at, Activity, live_in, program_in, AreOfPages, IsSound, lines_with, Touch, pages_wanted, wants_of, AreWanted, zero, suc, ◌^◌, ◌||◌, ◌&&◌, nat_le, if◌then◌else◌, length, Option, Some, None, Result, Ok, Err, Located, Private, Shared, Refused}
 use Rattle.flat_machine.specs.declared.machine.Window.{Window}
 use Rattle.page_table.specs.declared.segment_regs.Check.{Check}
 use Rattle.page_table.specs.declared.segment_regs.Virtual.{Virtual}
@@ -266,13 +266,6 @@ module _ (a : Activity) (seat : ℕ) (sound : IsSound a) where
         ∙ ap (λ (t : Touch). lines_with a seat (wants_of t)) (sym is)
 
     module _ (first second : Want) (is : touch ≡ Touch.Two first second) where
-      pub first-within : first.page < page_count a.reach.directory
-      first-within = All-head (λ (w : Want). w.page < page_count a.reach.directory) first (second ∷ []) (subst (λ (t : Touch). AreWithin (page_count a.reach.directory) (wants_of t)) is wanted.within)
-
-      pub second-within : second.page < page_count a.reach.directory
-      second-within = All-head (λ (w : Want). w.page < page_count a.reach.directory) second []
-          (All-tail (λ (w : Want). w.page < page_count a.reach.directory) first (second ∷ []) (subst (λ (t : Touch). AreWithin (page_count a.reach.directory) (wants_of t)) is wanted.within))
-
       pub counts-two : write_count pages
           + (length (difference first.writes (held_at a.seating.holding seat first.page).1) + length (difference second.writes (held_at a.seating.holding seat second.page).1))
           ≡ lines_with a seat (wants_of touch)

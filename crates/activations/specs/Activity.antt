@@ -1,7 +1,7 @@
 -- What runs side by side, as `Activations` are seen, and the desk that it is over committed bytes.
 use Rattle.std.specs.Prelude.{[], refl, ℕ, zero, suc, false, List, length, map, replicate, slice_index_or, None, is_some}
 use Rattle.std.proofs.Common.{lit<, lit≤}
-use Rattle.activations.specs.Below.{Authority, bytes_over, clear, Desk, Entry, flat_lines, flat_map, Grant, grant_of, Lines, lines_wanted, no_lines, of_page, of_seat, owners_told, PageSize, Plain, Pool, private_bytes, Program, range_with_len, Reach, Seating, sitter, unowned}
+use Rattle.activations.specs.Below.{Access, Authority, bytes_over, clear, Desk, Entry, first_registers, flat_lines, flat_map, Grant, grant_of, Lines, lines_of_access, lines_wanted, no_lines, of_page, of_seat, owners_told, PageSize, Plain, Pool, private_bytes, Program, range_with_len, Reach, Registers, Seating, sitter, unowned, write_count}
 use Rattle.std.specs.Option.{option_map_or}
 use Rattle.lines.specs.FlatStore.{FlatStore}
 use Rattle.lines.specs.declared.line_geometry.PageSize.TheVariants.{Two}
@@ -25,6 +25,10 @@ no_program =
 
 abbrev pub program_at : List Program → ℕ → Program
 program_at programs place = slice_index_or programs place no_program
+
+-- what runs where a program has just begun at an address, with four values in registers 2 to 5
+abbrev pub first_live : (entry : ℕ) → (args : List ℕ) → Registers → Live
+first_live entry args registers = record { cpu = record { regs = first_registers args; cs = clear; iar = entry; printed = 0 }; registers = registers; out = [] }
 
 -- what runs where nothing runs yet, over pages of a size
 abbrev pub nothing_over : PageSize → Live
@@ -110,6 +114,14 @@ lines_held pages =
 -- what is held in a seat
 abbrev pub locks_in : Activity → ℕ → Lines
 locks_in a seat = lines_held (of_seat a.seating.holding seat)
+
+-- how many lines are held in a seat to write
+abbrev pub held_to_write : Activity → ℕ → ℕ
+held_to_write a seat = write_count (of_seat a.seating.holding seat)
+
+-- the lines of the store that an access in a seat touches
+abbrev pub lines_accessed : Activity → (seat : ℕ) → Access → Lines
+lines_accessed a seat access = lines_of_access (program_in a seat) a.reach.directory access
 
 -- what one waits for, and what is waited for in a seat
 abbrev pub request_for : Seat → Lines

@@ -1,12 +1,12 @@
 -- What a begin makes of those that run.
-use Rattle.std.specs.Prelude.{[], ◌≡◌, ℕ, ◌+◌, List, Option, Some, None, slice_set}
-use Rattle.activations.specs.Below.{absent_segment, begun, begun_told, clear, Desk, Fine, first_registers, Layout, made, newcomer, next_seat, nobody_sits, page_count, private_segment, Program, registers_of_program, seated, step}
+use Rattle.std.specs.Prelude.{[], ◌≡◌, ℕ, ◌+◌, List, Option, Some, None, length, slice_set}
+use Rattle.activations.specs.Below.{absent_segment, begun, begun_told, byte_count, Desk, Fine, Header, Layout, made, most_lines, newcomer, next_seat, nobody_sits, opened, page_count, private_segment, Program, registers_of_program, seated, step}
 use Rattle.desk.specs.declared.answers.Begun.{Begun}
 use Rattle.desk.specs.declared.answers.Begun.TheVariants.{Started, Busy, NoSegment}
 use Rattle.desk.specs.declared.event.Event.TheVariants.{Begin}
 use Rattle.activations.specs.declared.live.Live.{Live}
-use Rattle.activations.specs.Activity.{Activity, program_at, desk_over}
-use Rattle.activations.specs.Follows.{KeepsDesk}
+use Rattle.activations.specs.Activity.{Activity, first_live, program_at, desk_over}
+use Rattle.activations.specs.Follows.{KeepsDesk, OverDesk}
 
 -- nobody runs yet, over a store with this directory and so many frames for its pages
 abbrev pub idle : List Program → (most_lines frames : ℕ) → Layout → List Live → Activity
@@ -18,6 +18,12 @@ pub record Begins (a : Activity) (desk : Desk) (committed : List ℕ) : Type 0 w
   pub is_desk : desk_over a committed [] ≡ desk
   pub follows : KeepsDesk a committed
 
+-- nobody runs yet over the store of a header, and over whatever is committed it is a desk that was just opened
+pub record HasNobody (a : Activity) (programs : List Program) (header : Header) (frames : ℕ) : Type 0 where
+  pub idle : a ≡ idle programs (most_lines header) frames header.directory a.live
+  pub first : (committed : List ℕ) → length committed ≡ byte_count header.directory
+      → Begins a (opened frames 16 (most_lines header) (record { directory = header.directory; bytes = committed })) committed
+
 -- the next number is given, and all else stays
 abbrev pub given : Activity → Activity
 given a = record a { next = a.next + 1 }
@@ -25,11 +31,7 @@ given a = record a { next = a.next + 1 }
 -- what runs in a seat where a program has just begun with four values
 abbrev pub started : Activity → (program : ℕ) → (args : List ℕ) → (seat : ℕ) → Live
 started a program args seat =
-    record {
-      cpu = record { regs = first_registers args; cs = clear; iar = (program_at a.programs program).entry; printed = 0 };
-      registers = registers_of_program (program_at a.programs program) a.reach.directory (private_segment seat);
-      out = [];
-    }
+    first_live (program_at a.programs program).entry args (registers_of_program (program_at a.programs program) a.reach.directory (private_segment seat))
 
 -- a program has begun in a seat, with the next number
 abbrev pub begun_in : Activity → (program : ℕ) → (args : List ℕ) → (seat : ℕ) → Activity
@@ -55,3 +57,9 @@ begins a program args = begins_by (next_seat a.seating) (absent_segment a.reach.
 pub record IsBegin (old new : Activity) (program : ℕ) (args : List ℕ) (answer : Begun) (committed : List ℕ) : Type 0 where
   pub is_step : (order : List (ℕ × ℕ)) → step old.programs (Begin program args) Fine (desk_over old committed order) ≡ record { desk = desk_over new committed order; happening = begun_told program answer }
   pub follows : KeepsDesk new committed
+
+-- a begin came to this answer, left this, and is the desk's
+pub record BeginsSo (a : Activity) (program : ℕ) (args : List ℕ) (told : Begun) (now : Activity) : Type 0 where
+  pub answer : told ≡ (begins a program args).0
+  pub left : now ≡ (begins a program args).1
+  pub is_begin : OverDesk a (IsBegin a now program args told)

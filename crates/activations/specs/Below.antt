@@ -8,7 +8,7 @@ pub use Rattle.desk.specs.Instruction.{Attempt, Broken, commits, contest_ends, C
 pub use Rattle.desk.specs.Run.{absent_segment, restarted, step}
 pub use Rattle.desk.specs.declared.answers.TurnEnd.{TurnEnd}
 pub use Rattle.desk_law.specs.Beside.{AreAlike, AreMarked, AreSeats, IsLaid, IsState, over_all, owners_told, Reads}
-pub use Rattle.desk_law.specs.Consistent.{AreConsistent, AreDistinct}
+pub use Rattle.desk_law.specs.Consistent.{AreConsistent, AreDistinct, AreResident}
 pub use Rattle.flat_machine.specs.After.{after, clear, first_registers}
 pub use Rattle.flat_machine.specs.Row.{Check, Commit, On, Outcome, row}
 pub use Rattle.flat_machine.specs.Touched.{touched}
@@ -29,14 +29,16 @@ pub use Rattle.outside.specs.Runs.{held_of, OnlyAsks}
 pub use Rattle.outside.specs.declared.world.Outside.{Ghosts}
 pub use Rattle.page_table.specs.Entries.{grant_of}
 pub use Rattle.page_table.specs.Placed.{unowned}
+pub use Rattle.page_table.specs.Registers.{located_by, Registers}
 pub use Rattle.page_table.specs.declared.lockbit_rules.Authority.{Authority}
+pub use Rattle.romp_cpu.specs.Attempts.{lines_of_access}
 pub use Rattle.romp_cpu.specs.Segments.{registers_of_program}
 pub use Rattle.romp_cpu.specs.declared.storage.Access.{Access}
 pub use Rattle.seats.specs.Flat.{flat_lines, lines_wanted}
 pub use Rattle.seats.specs.Held.{AreWithin, holds_some, of_page, write_count}
 pub use Rattle.seats.specs.Holding.{held_at, Holding, IsWhole, of_seat}
-pub use Rattle.seats.specs.Seating.{IsSeating, left, newcomer, next_seat, nobody_sits, number_in, seated, Seating, sitter, took, waiting_for, went_on}
-pub use Rattle.seats.specs.Waiting.{AreOfPage, holders}
+pub use Rattle.seats.specs.Seating.{IsSeating, left, newcomer, next_seat, nobody_sits, number_in, numbers, seat_of, seated, Seating, sitter, took, waiting_for, went_on}
+pub use Rattle.seats.specs.Waiting.{AreOfPage, cycle_of, holders}
 pub use Rattle.seats.specs.declared.request.Request.{Request}
 pub use Rattle.seats.specs.declared.request.Want.{Want}
 pub use Rattle.storage_unit.specs.Bytes.{bytes_over, is_line_marked, IsClean, private_bytes}
@@ -50,5 +52,5 @@ pub use Rattle.store.specs.Held.{HoldsAtLeast}
 pub use Rattle.store.specs.Kept.{begun_of, record_bytes_of}
 pub use Rattle.store.specs.KeptStore.{KeptStore, with_begun}
 pub use Rattle.store.specs.Shows.{IsShown, page_in, TracksStore}
-pub use Rattle.store_format.specs.Header.{entry_bytes, most_lines, total}
+pub use Rattle.store_format.specs.Header.{entry_bytes, Header, most_lines, total}
 pub use Rattle.store_format.specs.Stands.{laid, Stands, stands}

@@ -1,7 +1,6 @@
 -- What holds of those that run side by side at every moment.
 use Rattle.std.specs.Prelude.{[], ◌≡◌, ℕ, ◌+◌, ◌<◌, ◌≤◌, ◌⊎◌, true, false, List, All, length, slice_index_or, Some}
-use Rattle.activations.specs.Below.{AreAlike, AreMarked, AreOfPage, AreSeats, Authority, byte_count, due_to, has, is_line_marked, IsClean, IsOfPage, IsSeating, IsState, number_in, of_page, of_seat, page_count, private_segment, Reach, registers_of_program, Request, requested, sitter, unowned}
-use Rattle.desk_law.specs.Consistent.{AreResident}
+use Rattle.activations.specs.Below.{AreAlike, AreMarked, AreOfPage, AreResident, AreSeats, Authority, byte_count, due_to, has, is_line_marked, IsClean, IsOfPage, IsSeating, IsState, number_in, of_page, of_seat, page_count, private_segment, Reach, registers_of_program, Request, requested, sitter, unowned}
 use Rattle.desk_law.specs.Current.{IsCurrent}
 use Rattle.desk_law.specs.Orderly.{IsOrderly}
 use Rattle.activations.specs.Activity.{Activity, live_in, program_in, entry_in, entries, store_over, desk_over, locks_in, request_in, state_in, shown}
@@ -65,3 +64,7 @@ pub record IsKept (a : Activity) (committed : List ℕ) : Type 0 where
 pub record KeepsDesk (a : Activity) (committed : List ℕ) : Type 0 where
   pub orderly : IsOrderly (desk_over a committed [])
   pub kept : IsKept a committed
+
+-- so it is over whatever is committed beside which what runs follows the desk
+abbrev pub OverDesk : Activity → (List ℕ → Type 0) → Type 0
+OverDesk a holds = (committed : List ℕ) → KeepsDesk a committed → holds committed

@@ -9,4 +9,5 @@ pub mod Turning
 pub mod Begins
 pub mod Recorded
 pub mod Stages
+pub mod Words
 pub mod Fields

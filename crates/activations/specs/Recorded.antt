@@ -1,10 +1,9 @@
 -- The record of a commit: the lines that who sits in a seat holds to write, as all see them.
 use Rattle.std.specs.Prelude.{[], ◌≡◌, ℕ, ◌+◌, ◌<◌, ◌%◌, List, ◌∷◌, ◌++◌, All, length, map, Some}
-use Rattle.activations.specs.Below.{after, AllPairs, begun_of, Commit, entry_bytes, flat_lines, flat_map, has, held_at, holds_some, KeptStore, laid, most_lines, over_all, page_of_line, PageSize, Plain, Pool, record_bytes_of, row, with_begun}
+use Rattle.activations.specs.Below.{after, AllPairs, begun_of, Commit, entry_bytes, flat_lines, flat_map, has, Header, held_at, holds_some, KeptStore, laid, most_lines, over_all, page_of_line, PageSize, Plain, Pool, record_bytes_of, row, with_begun}
 use Rattle.frame_pool.specs.Pool.{line_shown}
 use Rattle.seats.specs.Counted.{Ascend}
 use Rattle.store_format.specs.Bank.{RecordLine}
-use Rattle.store_format.specs.Header.{Header}
 use Rattle.activations.specs.Activity.{Activity, program_in, entry_in, store_over, locks_in, shown}
 use Rattle.activations.specs.Follows.{KeepsDesk}
 use Rattle.activations.specs.Steps.{wrote}

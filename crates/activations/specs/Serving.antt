@@ -1,11 +1,12 @@
 -- An instruction that is served, from where it began, step by step.
 use Rattle.std.specs.Prelude.{[], ◌≡◌, ℕ, ◌+◌, ◌==◌, ◌&&◌, not, if◌then◌else◌, Bool, length, Some, List, ◌∷◌, filter, map, slice_index_or, slice_set, ◌≢◌, nat_lt, true, false, ◌++◌, All}
 use Rattle.activations.specs.Below.{AreAlike, AreOfPage, Attempt, Authority, Broken, conflicts_of, contest_ends, Counts, Desk, difference, Disk, Ending, Fetched, fetches, Fine, fine_grant_by, gets, Going, Grant, grant_by, grant_of, has, held_at, holders, instruction, is_fine_page, is_whole_page, Journal, Keeps, lines_wanted, lines_within, locks_with, lowered, nobody, of_page, On, Over, over_all, owners_told, Plain, Pool, Reads, refuses, Request, rolled_back, row, sitter, size, took, touched, touched_pages, Turning, waiting_for, Want, with_grants, Word, write_count}
-use Rattle.activations.specs.Touched.{with_whole_page, stores_into, pages_wanted, IsApart, pages_refused}
+use Rattle.activations.specs.Touched.{with_whole_page, stores_into, pages_picked, pages_wanted, IsApart, pages_refused, wants_of}
 use Rattle.desk_law.specs.UnderWay.{KeepsPages, contest, IsUnderWay, IsReady, marked, served_attempt}
 use Rattle.activations.specs.Activity.{Activity, entry_in, desk_over, program_in, number_under, authority_under, lines_held, locks_in, state_in, shown}
 use Rattle.activations.specs.Follows.{IsKept, KeepsDesk, AreOfPages, IsSound}
 use Rattle.activations.specs.declared.live.Live.{Live}
+use Rattle.activations.specs.declared.touch.Touch.{Touch}
 use Rattle.activations.specs.Kept.{plain_in}
 use Rattle.activations.specs.Steps.{counted, executed, with_pool, rolled, IsMoved, RollsBack, HasExecuted}
 
@@ -78,6 +79,10 @@ Grants seat wants pages old new = AreGranted old seat wants pages old.reach.entr
 
 abbrev pub Lowers : (seat : ℕ) → List Want → (old new : Activity) → Type 0
 Lowers seat wants old new = AreLowered old seat (pages_lowered old seat wants) old.reach.entries new.reach.entries
+
+-- the pages of a touch that are picked are granted, by what is held in a seat here
+abbrev pub GrantsPicked : Activity → (seat : ℕ) → Touch → (picked : Bool × Bool) → (old new : Activity) → Type 0
+GrantsPicked a seat touch picked old new = AreGranted a seat (wants_of touch) (pages_picked touch picked) old.reach.entries new.reach.entries
 
 -- the entries of the pages are others
 abbrev pub with_entries : Activity → (entries : List Authority) → Activity

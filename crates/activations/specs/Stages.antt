@@ -1,14 +1,16 @@
 -- Pages that come in from the store on the disk; what the stages of a turn ask for, what each leaves, and why a turn ended before its commit call.
-use Rattle.std.specs.Prelude.{[], ◌≡◌, ℕ, ◌+◌, ◌<◌, if◌then◌else◌, true, false, List, Option, Some, option_to_list, ◌≤◌, ◌++◌, ◌∷◌, length, Result, Ok, Err}
-use Rattle.activations.specs.Below.{array_vec_len, Attempt, Broken, brought, Check, Counts, fetches, Ghosts, has, held_of, HoldsAtLeast, IsClean, Keeps, KeptStore, Layout, lines_wanted, number_in, On, OnlyAsks, Plain, Pool, ReadFailed, Rose, row, Stands, stands, total, TracksStore, TurnEnd, Turning, victim_of, Want, Word}
+use Rattle.std.specs.Prelude.{[], ◌≡◌, ℕ, ◌+◌, ◌<◌, if◌then◌else◌, true, false, List, Option, Some, option_to_list, ◌≤◌, ◌++◌, ◌∷◌, length, Result, Ok, Err, IfErr, OnErr, OnOk, Bool, nat_lt}
+use Rattle.activations.specs.Below.{array_vec_len, Attempt, Broken, brought, Check, Counts, fetches, Ghosts, has, held_of, holders, HoldsAtLeast, IsClean, Keeps, KeptStore, Layout, lines_wanted, number_in, On, OnlyAsks, Plain, Pool, Reach, ReadFailed, Request, Rose, row, sitter, Stands, stands, total, TracksStore, TurnEnd, Turning, victim_of, Want, Word}
 use Rattle.activations.specs.Activity.{Activity, desk_over, program_in}
 use Rattle.activations.specs.Steps.{HasUndone, IsMoved, IsRolledBack, with_pool, rolled, counted}
 use Rattle.desk.specs.declared.answers.Cycle.{Cycle}
 use Rattle.activations.specs.declared.tally.Tally.{Tally}
-use Rattle.activations.specs.Kept.{IsSelected, plain_in, KeepsParts, StaysSeated}
+use Rattle.activations.specs.Kept.{IsSelected, plain_in, KeepsParts, StandsStill, StaysSeated, WillTouch}
 use Rattle.activations.specs.Follows.{KeepsDesk}
 use Rattle.activations.specs.Turning.{TalliesMore, IsEndOfRows, IfWaits, IsAsked, Serves, IsContestEnd, IsSettled, HasEnded, tally_counts, AreTurns, ComesBack, IsTurning, turn_in, IsServed, GoesUncounted}
-use Rattle.activations.specs.Serving.{IsFetched, IsToServe, IsFree, instruction_in}
+use Rattle.activations.specs.Serving.{IsFetched, IsToServe, IsFree, instruction_in, lines_with}
+use Rattle.activations.specs.Touched.{AreLetBut, AreWanted, pages_picked, pages_wanted, wants_of}
+use Rattle.activations.specs.declared.touch.Touch.{Touch}
 use Rattle.desk.specs.declared.answers.TurnEnd.TheVariants as end
 
 -- these bytes are committed in a store that is open
@@ -17,9 +19,17 @@ pub record IsStoreOf {W : Type 0} (G : Ghosts W) (store : KeptStore) (outside : 
   pub number : ℕ
   pub stood : stands (held_of G outside) ≡ Stands number (record { directory = store.header.directory; bytes = committed })
 
--- over whatever is committed in the store, of what all see nothing changed
-abbrev pub KeepsStore : {W : Type 0} → Ghosts W → KeptStore → W → Layout → (old new : Pool) → Type 0
-KeepsStore G store outside directory old new = (committed : List ℕ) → IsStoreOf G store outside committed → IsClean directory old committed → Keeps directory old new committed
+-- over whatever is committed in the store, of what all see through a pool nothing changed
+abbrev pub KeepsPool : {W : Type 0} → Ghosts W → KeptStore → W → Layout → (old new : Pool) → Type 0
+KeepsPool G store outside directory old new = (committed : List ℕ) → IsStoreOf G store outside committed → IsClean directory old committed → Keeps directory old new committed
+
+-- nor through the pool of a unit
+abbrev pub KeepsStore : {W : Type 0} → Ghosts W → KeptStore → W → (old new : Reach) → Type 0
+KeepsStore G store outside old new = KeepsPool G store outside old.directory old.pool new.pool
+
+-- a page has come in, and another that is to stay wasn't what went out for it
+abbrev pub HasCome : (old new : Pool) → (page : ℕ) → (keep : Option ℕ) → Type 0
+HasCome old new page keep = new.resident ≡ brought old.frames (option_to_list keep) old.resident page
 
 -- A page that was resident stays, and one that wasn't is counted and has come in. Another that is to stay has stayed.
 pub record IsIn (old new : Pool) (page : ℕ) (keep : Option ℕ) (before after : ℕ) : Type 0 where
@@ -32,6 +42,11 @@ pub record IsUnread (old new : Pool) (page : ℕ) (before after : ℕ) : Type 0 
   pub absent : has old.resident page ≡ false
   pub none : new.resident ≡ []
   pub counted : after ≡ before + 1
+
+-- the one or the other, as it went well or not
+pub record ComesIn {T E : Type 0} (result : Result T E) (old new : Activity) (page : ℕ) (keep : Option ℕ) (before after : Tally) : Type 0 where
+  pub page_in : OnOk result (IsIn old.reach.pool new.reach.pool page keep before.pages after.pages)
+  pub unread : OnErr result (IsUnread old.reach.pool new.reach.pool page before.pages after.pages)
 
 -- The page that was counted last couldn't be read: all pages went out, and of what all see nothing changed.
 pub record IsBrokenOff (a : Activity) (committed : List ℕ) (order : List (ℕ × ℕ)) (pages : List ℕ) (before : ℕ) (pool : Pool) (after : ℕ) : Type 0 where
@@ -87,17 +102,23 @@ abbrev pub IfVictim : (number : ℕ) → List Cycle → TurnEnd → Type 0
 IfVictim number cycles end.Victim = (earlier : List Cycle) × (last : Cycle) × (cycles ≡ earlier ++ last ∷ []) × (victim_of last.members.items ≡ number)
 IfVictim number cycles _ = Unit {0}
 
--- pages may be fetched from this store
-pub record CanFetch {W : Type 0} (G : Ghosts W) (a : Activity) (store : KeptStore) (outside : W) : Type 0 where
-  pub directory : store.header.directory ≡ a.reach.directory
+-- pages may be fetched from this store, which has this directory
+pub record CanFetch {W : Type 0} (G : Ghosts W) (layout : Layout) (store : KeptStore) (outside : W) : Type 0 where
+  pub directory : store.header.directory ≡ layout
   pub usable : store.bank.spoiled ≡ false
   pub room : HoldsAtLeast G (total store.header) outside
 
 -- and who sits in a seat, which is selected, may be served from it
 pub record CanServe {W : Type 0} (G : Ghosts W) (a : Activity) (seat : ℕ) (store : KeptStore) (outside : W) : Type 0 where
-  pub fetch : CanFetch G a store outside
+  pub fetch : CanFetch G a.reach.directory store outside
   pub taken : has a.seating.taken seat ≡ true
   pub selected : IsSelected a seat
+
+-- what who sits in a seat touches next is known, and none but these pages' entries refuse him of it
+pub record MayGet (a : Activity) (seat : ℕ) (touch : Touch) (picked : Bool × Bool) : Type 0 where
+  pub wanted : AreWanted a.reach.directory (wants_of touch)
+  pub touches : WillTouch a seat (wants_of touch)
+  pub refused : AreLetBut a.reach.entries (seat + 1) (pages_picked touch picked) (wants_of touch)
 
 -- what was counted has room for one instruction more
 pub record HasRoom (a : Activity) (tally : Tally) : Type 0 where
@@ -135,6 +156,13 @@ pub record CountsPages (old new : Tally) : Type 0 where
   pub more : old.pages ≤ new.pages
   pub few : new.pages ≤ old.pages + 2
 
+-- at most two refused ones too
+pub record CountsRefused (old new : Tally) : Type 0 where
+  pub rest : new ≡ record old { pages = new.pages; locks = new.locks }
+  pub more : old.pages ≤ new.pages
+  pub few : new.pages ≤ old.pages + 2
+  pub locks : new.locks ≤ old.locks + 2
+
 -- pages have come in, and over whatever is committed in the store, of what all see nothing changed
 pub record HasFetched {W : Type 0} (G : Ghosts W) (store : KeptStore) (outside : W) (a : Activity) (pages : List ℕ) (before : ℕ) (pool : Pool) (after : ℕ) : Type 0 where
   pub moved : IsMoved a.reach.pool pool
@@ -146,6 +174,11 @@ abbrev pub Fetches : {T E W : Type 0} → Result T E → Ghosts W → KeptStore 
 Fetches (Ok it) G store outside a pages before pool after = HasFetched G store outside a pages before pool after
 Fetches (Err failed) G store outside a pages before pool after =
     (committed : List ℕ) (order : List (ℕ × ℕ)) → IsStoreOf G store outside committed → IsClean a.reach.directory a.reach.pool committed → IsBrokenOff a committed order pages before pool after
+
+-- the pages of what is wanted have come in, or one couldn't be read and who sits in a seat was rolled back
+pub record BringsIn {T W : Type 0} (G : Ghosts W) (store : KeptStore) (outside : W) (seat : ℕ) (wants : List Want) (old new : Activity) (before after : Tally) (result : Result T TurnEnd) : Type 0 where
+  pub fetched : OnOk result (HasFetched G store outside old (pages_wanted wants) before.pages new.reach.pool after.pages)
+  pub broke : IfErr result (λ over. HasBrokenOff G store outside old seat (pages_wanted wants) before.pages new after.pages)
 
 -- at most four pages and two refused ones more were counted, and no more cycles than there is room for
 pub record CountsOne (a : Activity) (old new : Tally) : Type 0 where
@@ -168,6 +201,18 @@ SettlesAsked seat wants old new before after result =
     (begins : Word → Turning) (attempt : Attempt) (refused : List ℕ) (committed : List ℕ) (order : List (ℕ × ℕ))
     → IsAsked begins attempt refused old seat wants committed order (tally_counts before) → IsSettled result begins attempt refused new committed order (tally_counts after)
 
+-- What who sits in a seat asks for is disputed: cycles alone are counted, he stands as he stood or it ended his turn, and it is settled so.
+pub record Disputes {U : Type 0} (settles : (old new : Activity) → (before after : Tally) → Result U TurnEnd → Type 0) (seat : ℕ) (old new : Activity) (before after : Tally) (result : Result U TurnEnd) : Type 0 where
+  pub keeps : KeepsParts old new 0
+  pub counts : CountsCycles new before after
+  pub stays : OnOk result (StandsStill old new seat)
+  pub ends : IfErr result (EndsContest (number_in old.seating seat) after)
+  pub settled : settles old new before after result
+
+-- these are the numbers that who sits in a seat waits for, if he waits
+abbrev pub AreAwaited : Activity → (seat : ℕ) → List ℕ → Type 0
+AreAwaited a seat numbers = (request : Request) → (sitter a.seating seat).waits ≡ Some request → numbers ≡ holders a.seating seat request.wants.items
+
 -- what is got in a seat, once nobody holds it, is served so
 abbrev pub ServesFree : {U W : Type 0} → Ghosts W → KeptStore → W → (seat : ℕ) → List Want → (refused : List ℕ) → (old new : Activity) → (before after : Tally) → Result U TurnEnd → Type 0
 ServesFree G store outside seat wants refused old new before after result =
@@ -186,6 +231,13 @@ abbrev pub EndsServing : (seat : ℕ) → List Want → (old new : Activity) →
 EndsServing seat wants old new how =
     (committed : List ℕ) (order : List (ℕ × ℕ)) (counts : Counts) (next : Plain) → IsToServe old seat committed wants next
     → HasEnded how (instruction_in old seat committed order counts) new committed order counts
+
+-- with so many lines it is as before, or he is rolled back since they are more than a record may have
+pub record KeepsLimit {U : Type 0} (seat : ℕ) (wants : List Want) (old new : Activity) (result : Result U TurnEnd) : Type 0 where
+  pub kept : OnOk result ((new ≡ old) × (nat_lt old.most_lines (lines_with old seat wants) ≡ false))
+  pub journal : IfErr result (IsOver (lines_with old seat wants) old.most_lines)
+  pub back : IfErr result (λ how. new ≡ rolled old seat new.reach.pool)
+  pub over : IfErr result (EndsServing seat wants old new)
 
 -- over whatever is committed in the store, an instruction of who sits in a seat comes to this
 abbrev pub Instructs :

@@ -1,5 +1,5 @@
 -- What a row of one does to all, and what endings leave: one rolled back or committed, and everybody rolled back.
-use Rattle.std.specs.Prelude.{◌≡◌, ℕ, ◌+◌, ◌<◌, ◌%◌, ◌&&◌, not, if◌then◌else◌, Bool, List, slice_index, slice_set, true, Some, [], length}
+use Rattle.std.specs.Prelude.{◌≡◌, ℕ, ◌+◌, ◌<◌, ◌%◌, ◌&&◌, not, if◌then◌else◌, Bool, List, slice_index, slice_set, true, false, Some, [], length}
 use Rattle.activations.specs.Below.{after, AreConsistent, byte_count, bytes_over, Commit, Counts, due_to, ended, GoesOpen, Going, has, held_at, Holding, instruction, is_line_marked, IsClean, IsLaid, Keeps, Layout, LeavesSeats, left, line_of, over_all, page_of_line, Plain, plain_over, Pool, private_bytes, Reach, released, restarted, rolled_back, row, taken_out, went_on, Word}
 use Rattle.desk_law.specs.Changes.{committed_at}
 use Rattle.activations.specs.declared.live.Live.{Live}
@@ -151,9 +151,26 @@ pub record HasSettled (holding : Holding) (seat : ℕ) (old new : Reach) : Type 
       → slice_index (bytes_over old.directory old.pool committed) place ≡ slice_index committed place)
       → Keeps old.directory old.pool new.pool committed
 
+-- the one or the other, as what was written is committed or not
+pub record EndsWritten (committed : Bool) (holding : Holding) (seat : ℕ) (old new : Reach) : Type 0 where
+  pub rest : new ≡ record old { pool = new.pool }
+  pub undone : committed ≡ false → HasUndone holding seat old new
+  pub settled : committed ≡ true → HasSettled holding seat old new
+
 -- who sits in a seat is undone, and the pool is another then
 abbrev pub IsUndone : Activity → (seat : ℕ) → Pool → Type 0
 IsUndone a seat pool = HasUndone a.seating.holding seat a.reach (record a.reach { pool = pool })
+
+-- who sat in a seat has left it, rolled back
+pub record LeavesRolled (old : Activity) (seat : ℕ) (new : Activity) : Type 0 where
+  pub shape : new ≡ rolled old seat new.reach.pool
+  pub undone : IsUndone old seat new.reach.pool
+  pub rolls : IsRolledBack old seat new.reach.pool
+
+-- who sat in a seat has left it, and what he wrote is committed
+pub record LeavesWritten (old : Activity) (seat : ℕ) (new : Activity) : Type 0 where
+  pub shape : new ≡ rolled old seat new.reach.pool
+  pub commits : IsCommitted old seat new.reach.pool
 
 -- bytes stand where what was printed in a seat stood
 abbrev pub reprinted : Activity → (seat : ℕ) → (out : List ℕ) → Activity

@@ -1,6 +1,6 @@
 // Who runs, what each has, and the storage that they share.
-ghost use Rattle.std.specs.Prelude.{◌≡◌, true, ℕ, ◌-◌, ◌^◌, ◌≤◌, List, length, IfOk, ◌<◌};
-ghost use Rattle.activations.specs.Below.{absent_segment, byte_count, has, most_lines, opened};
+ghost use Rattle.std.specs.Prelude.{◌≡◌, true, ◌-◌, ◌^◌, ◌≤◌, length, IfOk, ◌<◌};
+ghost use Rattle.activations.specs.Below.{absent_segment, has};
 
 use super::live::Live;
 use desk::Begun;
@@ -38,8 +38,7 @@ impl Model for Activations {
 }
 
 impl Activations {
-    ghost use Rattle.activations.specs.Begins.{idle, begins, Begins, IsBegin};
-    ghost use Rattle.activations.specs.Follows.{AlwaysHolds, KeepsDesk};
+    ghost use Rattle.activations.specs.Words.{AlwaysHolds, BeginsSo, HasNobody};
 
     /// Nobody runs, over a store with this header and so many frames for its pages. Any of these programs may begin. It
     /// takes all the memory that it will need.
@@ -55,8 +54,7 @@ impl Activations {
     ) -> Result<Activations, AllocError>
         requires some { 2 ≤ frames }
         requires few { frames ≤ 1024 }
-        ensures idle { IfOk result (λ a. a ≡ idle programs.items (most_lines header.now) frames header.now.directory a.live) }
-        ensures first { IfOk result (λ a. (committed : List ℕ) → length committed ≡ byte_count header.now.directory → Begins a (opened frames 16 (most_lines header.now) (record { directory = header.now.directory; bytes = committed })) committed) }
+        ensures { IfOk result (λ a. HasNobody a programs.items header.now frames) }
     {
         let directory = *header.directory();
         let mut live = Vec::with_capacity(alloc, 16)?;
@@ -94,9 +92,7 @@ impl Activations {
     pub fn begin(&mut self, program: u16, args: [u32; 4]) -> Begun
         requires known { program < length self.old.programs }
         requires room { self.old.next < 2 ^ 32 - 1 }
-        ensures answer { result ≡ (begins self.old program args).0 }
-        ensures left { self.new ≡ (begins self.old program args).1 }
-        ensures is_begin { (committed : List ℕ) → KeepsDesk self.old committed → IsBegin self.old self.new program args result committed }
+        ensures { BeginsSo self.old program args result self.new }
     {
         let number = self.next;
         self.next += 1;

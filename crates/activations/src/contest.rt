@@ -1,8 +1,7 @@
 // Who waits for whom, and the cycles that are broken.
-ghost use Rattle.std.specs.Prelude.{◌≡◌, ◌≤◌, ◌+◌, ◌==◌, true, length, IsSome, Some, ◌<◌, OnOk, IfErr};
+ghost use Rattle.std.specs.Prelude.{◌≡◌, ◌≤◌, ◌+◌, true, length, IsSome, ◌<◌};
 ghost use Rattle.std.specs.Option.{option_map};
-ghost use Rattle.seats.specs.Waiting.{cycle_of};
-ghost use Rattle.activations.specs.Below.{array_vec_len, has, victim_of};
+ghost use Rattle.activations.specs.Below.{array_vec_len, cycle_of, has, sitter, victim_of};
 
 use super::activations::Activations;
 use super::tally::Tally;
@@ -10,11 +9,7 @@ use arrayvec::ArrayVec;
 use desk::{Cycle, TurnEnd};
 
 impl Activations {
-    ghost use Rattle.activations.specs.Follows.{IsSound};
-    ghost use Rattle.activations.specs.Kept.{KeepsParts, StandsStill};
-    ghost use Rattle.activations.specs.Stages.{CountsCycles, EndsContest};
-    ghost use Rattle.activations.specs.Turning.{Settles};
-    ghost use Rattle.activations.specs.Below.{holders, number_in, Request, sitter};
+    ghost use Rattle.activations.specs.Words.{AreAwaited, Disputes, IsSound, Settles};
 
     /// Who sits in a seat waits, and each cycle of waits from it is broken by rolling its victim back. Nothing is returned
     /// where nobody holds any more what it asks for.
@@ -22,11 +17,7 @@ impl Activations {
         requires taken { has self.old.seating.taken seat ≡ true }
         requires waits { IsSome (sitter self.old.seating seat).waits }
         requires room { array_vec_len tally.old.cycles + length self.old.seating.taken ≤ 16 }
-        ensures keeps { KeepsParts self.old self.new 0 }
-        ensures counts { CountsCycles self.new tally.old tally.new }
-        ensures stays { OnOk result (StandsStill self.old self.new seat) }
-        ensures ends { IfErr result (EndsContest (number_in self.old.seating seat) tally.new) }
-        ensures settled { Settles seat self.old self.new tally.old tally.new result }
+        ensures { Disputes (Settles seat) seat self.old self.new tally.old tally.new result }
     {
         self.sound();
         let number = self.sitter(seat).number;
@@ -61,7 +52,7 @@ impl Activations {
     /// The numbers of those that who sits in a seat waits for, ascending.
     fn awaited(&self, seat: u8) -> ArrayVec<u32, 16>
         requires seat { seat < 16 }
-        ensures { (request : Request) → (sitter self.now.seating seat).waits ≡ Some request → result.items ≡ holders self.now.seating seat request.wants.items }
+        ensures { AreAwaited self.now seat result.items }
     {
         match &self.seats.sitter(seat).waits {
             Some(request) => self.seats.holders(seat, request),

@@ -1,7 +1,7 @@
 // How an activation ends.
-ghost use Rattle.std.specs.Prelude.{◌≡◌, ◌<◌, true, false, ℕ, List};
-ghost use Rattle.activations.specs.Below.{has, IsWhole, page_count, reach_of};
-ghost use Rattle.activations.specs.Steps.{HasUndone, HasSettled, IsDeserted, IsRestarted, reprinted, rolled, IsRolledBack, IsCommitted, IsUndone};
+ghost use Rattle.std.specs.Prelude.{◌≡◌, ◌<◌, true, false};
+ghost use Rattle.activations.specs.Below.{has, IsWhole, numbers, page_count, reach_of, seat_of, sitter};
+ghost use Rattle.activations.specs.Words.{EndsWritten, IsDeserted, IsRestarted, KeepsDesk, LeavesRolled, LeavesWritten, live_in, OverDesk, reprinted};
 
 use super::activations::Activations;
 use arrayvec::ArrayVec;
@@ -11,16 +11,10 @@ use std::mem::swap;
 use storage_unit::Unit;
 
 impl Activations {
-    ghost use Rattle.activations.specs.Activity.{live_in};
-    ghost use Rattle.seats.specs.Seating.{numbers, seat_of, sitter};
-    ghost use Rattle.activations.specs.Follows.{KeepsDesk};
-
     /// Who sits in a seat is rolled back: the pages that he wrote into go out, and the lines that he wrote are forgotten.
     pub fn roll_back(&mut self, seat: u8)
         requires taken { has self.old.seating.taken seat ≡ true }
-        ensures shape { self.new ≡ rolled self.old seat self.new.reach.pool }
-        ensures undone { IsUndone self.old seat self.new.reach.pool }
-        ensures rolls { IsRolledBack self.old seat self.new.reach.pool }
+        ensures { LeavesRolled self.old seat self.new }
     {
         self.end(seat, false);
     }
@@ -28,8 +22,7 @@ impl Activations {
     /// What was written in a seat is committed now, and who sat in it has ended.
     pub fn commit(&mut self, seat: u8)
         requires taken { has self.old.seating.taken seat ≡ true }
-        ensures shape { self.new ≡ rolled self.old seat self.new.reach.pool }
-        ensures commits { IsCommitted self.old seat self.new.reach.pool }
+        ensures { LeavesWritten self.old seat self.new }
     {
         self.end(seat, true);
     }
@@ -37,7 +30,7 @@ impl Activations {
     /// All are rolled back, and no page is resident.
     pub fn forget(&mut self)
         ensures deserted { IsDeserted self.old self.new }
-        ensures restarts { (committed : List ℕ) → KeepsDesk self.old committed → IsRestarted self.old self.new committed }
+        ensures restarts { OverDesk self.old (IsRestarted self.old self.new) }
     {
         for seat in 0..16 {
             if self.seats.taken().contains(&seat) {
@@ -75,7 +68,7 @@ impl Activations {
         requires free { has self.old.seating.taken seat ≡ false }
         ensures out { out.new ≡ (live_in self.old seat).out }
         ensures left { self.new ≡ reprinted self.old seat out.old }
-        ensures follows { (committed : List ℕ) → KeepsDesk self.old committed → KeepsDesk self.new committed }
+        ensures follows { OverDesk self.old (KeepsDesk self.new) }
     {
         swap(&mut self.live[usize::from(seat)].out, out);
     }
@@ -85,10 +78,8 @@ impl Activations {
     #[inline(always)]
     fn end(&mut self, seat: u8, committed: bool)
         requires taken { has self.old.seating.taken seat ≡ true }
-        ensures shape { self.new ≡ rolled self.old seat self.new.reach.pool }
-        ensures undone { committed ≡ false → IsUndone self.old seat self.new.reach.pool }
-        ensures rolls { committed ≡ false → IsRolledBack self.old seat self.new.reach.pool }
-        ensures commits { committed ≡ true → IsCommitted self.old seat self.new.reach.pool }
+        ensures rolls { committed ≡ false → LeavesRolled self.old seat self.new }
+        ensures commits { committed ≡ true → LeavesWritten self.old seat self.new }
     {
         self.is_seat(seat);
         end_written(&self.seats, &mut self.unit, seat, committed);
@@ -105,9 +96,7 @@ fn end_written(seats: &Seats, unit: &mut Unit, seat: u8, committed: bool)
     requires seat { seat < 16 }
     requires whole { IsWhole seats.now.holding }
     requires pages { seats.now.holding.pages ≡ page_count (reach_of unit.old).directory }
-    ensures rest { reach_of unit.new ≡ record (reach_of unit.old) { pool = (reach_of unit.new).pool } }
-    ensures undone { committed ≡ false → HasUndone seats.now.holding seat (reach_of unit.old) (reach_of unit.new) }
-    ensures settled { committed ≡ true → HasSettled seats.now.holding seat (reach_of unit.old) (reach_of unit.new) }
+    ensures { EndsWritten committed seats.now.holding seat (reach_of unit.old) (reach_of unit.new) }
 {
     let locks = seats.locks();
     for page in locks.held_pages(seat) {

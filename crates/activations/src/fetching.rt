@@ -1,9 +1,7 @@
 // Pages come in from the store on the disk.
-ghost use Rattle.std.specs.Prelude.{[], ◌≡◌, ◌+◌, ◌<◌, ◌^◌, false, OnOk, OnErr, option_to_list};
-ghost use Rattle.activations.specs.Below.{brought, FailsOnlyCounted, has, HoldsAtLeast, OnlyAsks, page_count, reach_of, total};
-ghost use Rattle.activations.specs.Stages.{IsIn, IsUnread, KeepsStore, CanFetch, CountsPages, Fetches};
-ghost use Rattle.activations.specs.Steps.{IsMoved, with_pool};
-ghost use Rattle.activations.specs.Touched.{AreWanted, wants_of, pages_wanted};
+ghost use Rattle.std.specs.Prelude.{[], ◌≡◌, ◌+◌, ◌<◌, ◌^◌, false, OnOk, OnErr};
+ghost use Rattle.activations.specs.Below.{FailsOnlyCounted, has, OnlyAsks, page_count, reach_of};
+ghost use Rattle.activations.specs.Words.{AreWanted, CanFetch, ComesIn, CountsPages, Fetches, HasCome, IsMoved, KeepsStore, pages_wanted, wants_of, with_pool};
 
 use super::activations::Activations;
 use super::pages::StorePages;
@@ -28,7 +26,7 @@ impl Activations {
         touch: &Touch,
         tally: &mut Tally,
     ) -> Result<(), Failed>
-        requires can { CanFetch W.Outside self.old store.now outside.old }
+        requires can { CanFetch W.Outside self.old.reach.directory store.now outside.old }
         requires wanted { AreWanted self.old.reach.directory (wants_of touch.now) }
         requires few { tally.old.pages + 2 < 2 ^ 32 }
         ensures asks { OnlyAsks W.Outside outside.old outside.new }
@@ -61,18 +59,15 @@ impl Activations {
         tally: &mut Tally,
     ) -> Result<(), Failed>
         requires page { page < page_count self.old.reach.directory }
-        requires store { store.now.header.directory ≡ self.old.reach.directory }
-        requires usable { store.now.bank.spoiled ≡ false }
-        requires room { HoldsAtLeast W.Outside (total store.now.header) outside.old }
+        requires can { CanFetch W.Outside self.old.reach.directory store.now outside.old }
         requires few { tally.old.pages + 1 < 2 ^ 32 }
         ensures asks { OnlyAsks W.Outside outside.old outside.new }
         ensures shape { self.new ≡ with_pool self.old self.new.reach.pool }
         ensures tally { tally.new ≡ record tally.old { pages = tally.new.pages } }
         ensures cause { FailsOnlyCounted (W.disk_faults outside.old) (W.disk_faults outside.new) result }
         ensures moved { IsMoved self.old.reach.pool self.new.reach.pool }
-        ensures page_in { OnOk result (IsIn self.old.reach.pool self.new.reach.pool page keep tally.old.pages tally.new.pages) }
-        ensures unread { OnErr result (IsUnread self.old.reach.pool self.new.reach.pool page tally.old.pages tally.new.pages) }
-        ensures keeps { KeepsStore W.Outside store.now outside.old self.old.reach.directory self.old.reach.pool self.new.reach.pool }
+        ensures came { ComesIn result self.old self.new page keep tally.old tally.new }
+        ensures keeps { KeepsStore W.Outside store.now outside.old self.old.reach self.new.reach }
     {
         if self.unit.pool().frame_of(page).is_some() {
             return Ok(());
@@ -92,16 +87,14 @@ fn bring_page<W: Outside>(
 ) -> Result<(), Failed>
     requires page { page < page_count (reach_of unit.old).directory }
     requires absent { has (reach_of unit.old).pool.resident page ≡ false }
-    requires store { store.now.header.directory ≡ (reach_of unit.old).directory }
-    requires usable { store.now.bank.spoiled ≡ false }
-    requires room { HoldsAtLeast W.Outside (total store.now.header) outside.old }
+    requires can { CanFetch W.Outside (reach_of unit.old).directory store.now outside.old }
     ensures asks { OnlyAsks W.Outside outside.old outside.new }
     ensures rest { reach_of unit.new ≡ record (reach_of unit.old) { pool = (reach_of unit.new).pool } }
     ensures cause { FailsOnlyCounted (W.disk_faults outside.old) (W.disk_faults outside.new) result }
     ensures moved { IsMoved (reach_of unit.old).pool (reach_of unit.new).pool }
-    ensures came { OnOk result ((reach_of unit.new).pool.resident ≡ brought (reach_of unit.old).pool.frames (option_to_list keep) (reach_of unit.old).pool.resident page) }
+    ensures came { OnOk result (HasCome (reach_of unit.old).pool (reach_of unit.new).pool page keep) }
     ensures none { OnErr result ((reach_of unit.new).pool.resident ≡ []) }
-    ensures keeps { KeepsStore W.Outside store.now outside.old (reach_of unit.old).directory (reach_of unit.old).pool (reach_of unit.new).pool }
+    ensures keeps { KeepsStore W.Outside store.now outside.old (reach_of unit.old) (reach_of unit.new) }
 {
     unit.bring_in(&StorePages { store }, outside, page, keep)
 }

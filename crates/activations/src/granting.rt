@@ -1,7 +1,7 @@
 // Lines are locked, the pages whose entries refused them are granted, and write bits of fine pages go off again.
 ghost use Rattle.std.specs.Prelude.{[], ◌≡◌, ◌<◌, ◌∷◌, map, true};
 ghost use Rattle.activations.specs.Below.{AreDistinct, AreWithin, has, page_count};
-ghost use Rattle.activations.specs.Touched.{AreWanted, page_if, pages_picked, pages_wanted, wants_of, with_whole_page};
+ghost use Rattle.activations.specs.Words.{AreWanted, Grants, GrantsPicked, locked, Lowers, page_if, pages_wanted, wants_of, with_entries, with_whole_page};
 
 use super::activations::Activations;
 use super::touch::Touch;
@@ -10,8 +10,6 @@ use page_table::Authority;
 use seats::{Request, Want};
 
 impl Activations {
-    ghost use Rattle.activations.specs.Serving.{AreGranted, locked, with_entries, Grants, Lowers};
-
     /// What a touch asks for.
     #[inline(always)]
     pub(super) fn request(&self, touch: &Touch) -> Request
@@ -26,7 +24,7 @@ impl Activations {
         requires taken { has self.old.seating.taken seat ≡ true }
         requires wanted { AreWanted self.old.reach.directory (wants_of touch.now) }
         ensures shape { self.new ≡ locked self.old seat (wants_of touch.now) self.new.reach.entries }
-        ensures granted { AreGranted self.new seat (wants_of touch.now) (pages_picked touch.now refused) self.old.reach.entries self.new.reach.entries }
+        ensures granted { GrantsPicked self.new seat touch.now refused self.old self.new }
     {
         let request = self.request(touch);
         self.seats.take(seat, &request);
@@ -41,7 +39,7 @@ impl Activations {
         requires pages { AreWithin (page_count self.old.reach.directory) (wants_of touch.now) }
         requires once { AreDistinct (pages_wanted (wants_of touch.now)) }
         ensures shape { self.new ≡ with_entries self.old self.new.reach.entries }
-        ensures granted { Grants seat (wants_of touch.now) (pages_picked touch.now picked) self.old self.new }
+        ensures granted { GrantsPicked self.old seat touch.now picked self.old self.new }
     {
         match touch {
             Touch::Nothing => {}

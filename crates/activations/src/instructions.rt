@@ -1,8 +1,7 @@
 // One instruction of who sits in a seat: it takes effect, once its access has been served where it must be.
 ghost use Rattle.std.specs.Prelude.{◌≡◌, ◌+◌, ◌<◌, ◌≤◌, ◌^◌, true, length, IfErr, IfOk, OnOk};
-ghost use Rattle.activations.specs.Below.{array_vec_len, has, IsOpen, lines_wanted, OnlyAsks};
+ghost use Rattle.activations.specs.Below.{array_vec_len, has, IsOpen, lines_wanted, number_in, OnlyAsks};
 ghost use Rattle.desk.specs.declared.answers.TurnEnd.TheVariants as end;
-ghost use Rattle.activations.specs.Touched.{wants_of, pages_picked, pages_wanted, AreLetBut, AreWanted};
 
 use super::activations::Activations;
 use super::tally::Tally;
@@ -22,12 +21,7 @@ pub enum Went {
 }
 
 impl Activations {
-    ghost use Rattle.activations.specs.Activity.{live_in};
-    ghost use Rattle.activations.specs.Stages.{IsNoLimit, CanFetch, CanServe, CountsCycles, CountsOne, CountsPages, EndsByDisk, EndsContest, EndsRows, HasFetched, HasRoom, KeepsAll, StaysCalm, Instructs, SettlesAsked, ServesFree, EndsChecked, GoesServed, HasBrokenOff};
-    ghost use Rattle.activations.specs.Kept.{IsSelected, IsShut, WillTouch, KeepsParts, StandsStill, StaysSeated};
-    ghost use Rattle.activations.specs.Turning.{IsInstruction, Prepares, IsStep, MayBeShut};
-    ghost use Rattle.activations.specs.Steps.{rolled, with_pool};
-    ghost use Rattle.seats.specs.Seating.{number_in};
+    ghost use Rattle.activations.specs.Words.{AreWanted, BringsIn, CanFetch, CanServe, CountsOne, CountsPages, CountsRefused, Disputes, EndsByDisk, EndsChecked, EndsRows, GoesServed, HasRoom, Instructs, IsInstruction, IsNoLimit, IsSelected, IsShut, IsStep, KeepsAll, KeepsParts, live_in, MayBeShut, MayGet, pages_picked, Prepares, rolled, ServesFree, SettlesAsked, StaysCalm, StaysSeated, wants_of, WillTouch, with_pool};
 
     /// The next instruction of who sits in a seat, which is selected. Its access may be known already not to be permitted. A
     /// row that takes effect isn't counted yet.
@@ -120,12 +114,9 @@ impl Activations {
         requires can { CanServe W.Outside self.old seat store.now outside.old }
         requires shut { IsShut self.old seat access }
         requires tally { (tally.old.pages < 6000000) × (tally.old.locks < 2000000) }
-        ensures wanted { IfOk result (λ got. AreWanted self.new.reach.directory (wants_of got.0)) }
-        ensures touches { IfOk result (λ got. WillTouch self.new seat (wants_of got.0)) }
-        ensures refused { IfOk result (λ got. AreLetBut self.new.reach.entries (seat + 1) (pages_picked got.0 got.1) (wants_of got.0)) }
+        ensures may { IfOk result (λ got. MayGet self.new seat got.0 got.1) }
         ensures keeps { KeepsAll W.Outside self.old self.new 0 outside.old outside.new }
-        ensures tally { tally.new ≡ record tally.old { pages = tally.new.pages; locks = tally.new.locks } }
-        ensures few { (tally.old.pages ≤ tally.new.pages) × (tally.new.pages ≤ tally.old.pages + 2) × (tally.new.locks ≤ tally.old.locks + 2) }
+        ensures counts { CountsRefused tally.old tally.new }
         ensures on { OnOk result (StaysCalm W.Outside self.old self.new seat outside.old outside.new) }
         ensures over { IfErr result (EndsRows W.Outside (number_in self.old.seating seat) self.new outside.old outside.new tally.old tally.new) }
         ensures no_limit { IfErr result IsNoLimit }
@@ -153,7 +144,7 @@ impl Activations {
         touch: &Touch,
         tally: &mut Tally,
     ) -> Result<(), TurnEnd>
-        requires can { CanFetch W.Outside self.old store.now outside.old }
+        requires can { CanFetch W.Outside self.old.reach.directory store.now outside.old }
         requires taken { has self.old.seating.taken seat ≡ true }
         requires wanted { AreWanted self.old.reach.directory (wants_of touch.now) }
         requires few { tally.old.pages + 2 < 2 ^ 32 }
@@ -161,9 +152,8 @@ impl Activations {
         ensures counts { CountsPages tally.old tally.new }
         ensures calm { OnOk result (W.disk_faults outside.new ≡ W.disk_faults outside.old) }
         ensures shape { OnOk result (self.new ≡ with_pool self.old self.new.reach.pool) }
-        ensures fetched { OnOk result (HasFetched W.Outside store.now outside.old self.old (pages_wanted (wants_of touch.now)) tally.old.pages self.new.reach.pool tally.new.pages) }
         ensures ends { IfErr result (EndsByDisk W.Outside outside.old outside.new tally.old tally.new) }
-        ensures broke { IfErr result (λ over. HasBrokenOff W.Outside store.now outside.old self.old seat (pages_wanted (wants_of touch.now)) tally.old.pages self.new tally.new.pages) }
+        ensures brings { BringsIn W.Outside store.now outside.old seat (wants_of touch.now) self.old self.new tally.old tally.new result }
     {
         match self.fetch(store, outside, touch, tally) {
             Ok(()) => Ok(()),
@@ -184,11 +174,7 @@ impl Activations {
         requires taken { has self.old.seating.taken seat ≡ true }
         requires wanted { AreWanted self.old.reach.directory (wants_of touch.now) }
         requires cycles { array_vec_len tally.old.cycles + length self.old.seating.taken ≤ 16 }
-        ensures keeps { KeepsParts self.old self.new 0 }
-        ensures counts { CountsCycles self.new tally.old tally.new }
-        ensures stays { OnOk result (StandsStill self.old self.new seat) }
-        ensures ends { IfErr result (EndsContest (number_in self.old.seating seat) tally.new) }
-        ensures settled { SettlesAsked seat (wants_of touch.now) self.old self.new tally.old tally.new result }
+        ensures { Disputes (SettlesAsked seat (wants_of touch.now)) seat self.old self.new tally.old tally.new result }
     {
         let request = self.request(touch);
         if self.seats.holders(seat, &request).is_empty() {
@@ -215,9 +201,7 @@ impl Activations {
         tally: &mut Tally,
     ) -> Result<(), TurnEnd>
         requires can { CanServe W.Outside self.old seat store.now outside.old }
-        requires wanted { AreWanted self.old.reach.directory (wants_of touch.now) }
-        requires touches { WillTouch self.old seat (wants_of touch.now) }
-        requires refused { AreLetBut self.old.reach.entries (seat + 1) (pages_picked touch.now refused) (wants_of touch.now) }
+        requires may { MayGet self.old seat touch.now refused }
         requires few { tally.old.pages + 2 < 2 ^ 32 }
         ensures touches { OnOk result (WillTouch self.new seat (wants_of touch.now)) }
         ensures opened { OnOk result (IsOpen self.new.reach (lines_wanted (wants_of touch.now))) }

@@ -1,8 +1,6 @@
 // What an activation has beside its seat.
-ghost use Rattle.std.specs.Prelude.{[], ◌≡◌, IfOk};
-ghost use Rattle.flat_machine.specs.After.{clear};
-ghost use Rattle.flat_machine.specs.After as first;
-ghost use Rattle.activations.specs.Activity.{nothing_over};
+ghost use Rattle.std.specs.Prelude.{◌≡◌, IfOk};
+ghost use Rattle.activations.specs.Activity.{first_live, nothing_over};
 
 use flat_machine::{Cs, Printed, Program, first_registers};
 use lines::PageSize;
@@ -28,7 +26,12 @@ impl Live {
         ensures { IfOk result (λ live. live ≡ nothing_over page) }
     {
         Ok(Live {
-            cpu: first_cpu(0, [0; 4]),
+            cpu: Cpu {
+                regs: [0; 16],
+                cs: Cs::CLEAR,
+                iar: 0,
+                printed: 0,
+            },
             registers: SegmentRegs::none(page),
             out: Printed::new(alloc)?,
         })
@@ -36,22 +39,15 @@ impl Live {
 
     /// A program begins in the seat with four values in registers 2 to 5, and these windows.
     pub fn start(&mut self, program: &Program, args: [u32; 4], registers: SegmentRegs)
-        ensures { self.new ≡ record { cpu = record { regs = first.first_registers args; cs = clear; iar = program.now.entry; printed = 0 }; registers = registers; out = [] } }
+        ensures { self.new ≡ first_live program.now.entry args registers }
     {
-        self.cpu = first_cpu(program.entry, args);
+        self.cpu = Cpu {
+            regs: first_registers(args),
+            cs: Cs::CLEAR,
+            iar: u32::from(program.entry),
+            printed: 0,
+        };
         self.registers = registers;
         self.out.clear();
-    }
-}
-
-/// The processor of a program that begins at an address with four values in registers 2 to 5.
-fn first_cpu(entry: u16, args: [u32; 4]) -> Cpu
-    ensures { result ≡ record { regs = first.first_registers args; cs = clear; iar = entry; printed = 0 } }
-{
-    Cpu {
-        regs: first_registers(args),
-        cs: Cs::CLEAR,
-        iar: u32::from(entry),
-        printed: 0,
     }
 }

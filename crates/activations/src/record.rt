@@ -1,7 +1,7 @@
 // The record of a commit.
-ghost use Rattle.std.specs.Prelude.{[], ◌≡◌, ◌+◌, ◌*◌, ◌<◌, ◌≤◌, ℕ, List, All, length, true, Some, IsSome, IsOk, OnOk, OnErr, IfErr};
-ghost use Rattle.activations.specs.Below.{begun_of, flat_lines, has, most_lines, of_seat, page_count, size, write_count};
-ghost use Rattle.activations.specs.Recorded.{with_lines, IsItsStore, IsRecordOf, LeavesCommitted, HasWritten};
+ghost use Rattle.std.specs.Prelude.{[], ◌≡◌, ◌+◌, ◌*◌, ◌<◌, ◌≤◌, All, length, true, Some, IsSome, IsOk, OnOk, OnErr, IfErr};
+ghost use Rattle.activations.specs.Below.{begun_of, flat_lines, has, most_lines, page_count, size, with_begun};
+ghost use Rattle.activations.specs.Words.{HasWritten, held_to_write, IsItsStore, IsOver, IsRecordOf, LeavesCommitted, locks_in, OverDesk, rolled, with_lines};
 
 use super::activations::Activations;
 use super::touch::Touch;
@@ -11,12 +11,6 @@ use lines::LineSet;
 use store::Durable;
 
 impl Activations {
-    ghost use Rattle.activations.specs.Activity.{locks_in};
-    ghost use Rattle.activations.specs.Follows.{KeepsDesk};
-    ghost use Rattle.store.specs.KeptStore.{with_begun};
-    ghost use Rattle.activations.specs.Steps.{rolled};
-    ghost use Rattle.activations.specs.Stages.{IsOver};
-
     /// Begins a record of the lines that who sits in a seat holds to write, ascending, with the bytes that all see there.
     ///
     /// # Errors
@@ -29,13 +23,13 @@ impl Activations {
         ensures kept { OnOk result (self.new ≡ self.old) }
         ensures begun { OnOk result (store.new ≡ with_begun store.old (begun_of store.new.bank)) }
         ensures record { OnOk result (IsRecordOf self.old seat (begun_of store.new.bank)) }
-        ensures count { OnOk result (length (begun_of store.new.bank) ≡ write_count (of_seat self.old.seating.holding seat)) }
+        ensures count { OnOk result (length (begun_of store.new.bank) ≡ held_to_write self.old seat) }
         ensures few { OnOk result (length (begun_of store.new.bank) ≤ self.old.most_lines) }
         ensures laid { OnOk result (LeavesCommitted self.old seat (begun_of store.new.bank)) }
-        ensures journal { IfErr result (IsOver (write_count (of_seat self.old.seating.holding seat)) self.old.most_lines) }
+        ensures journal { IfErr result (IsOver (held_to_write self.old seat) self.old.most_lines) }
         ensures rolled { OnErr result (self.new ≡ rolled self.old seat self.new.reach.pool) }
         ensures unwritten { OnErr result (store.new ≡ store.old) }
-        ensures never { (committed : List ℕ) → KeepsDesk self.old committed → IsOk result }
+        ensures never { OverDesk self.old (λ committed. IsOk result) }
     {
         let _ = &self.unit;
         match self.keep_limit(seat, &Touch::Nothing) {

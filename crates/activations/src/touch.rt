@@ -23,7 +23,7 @@ impl Touch {
         requires near { last ≤ first + 1 }
         requires few { last < 2 ^ 20 }
         ensures lines { lines_wanted (wants_of result) ≡ lines_between first last store }
-        ensures wanted { (directory : Layout) → last < line_count directory → AreWanted directory (wants_of result) }
+        ensures wanted { (layout : Layout) → last < line_count layout → AreWanted layout (wants_of result) }
     {
         if first / 16 == last / 16 {
             Touch::One(want_of(first, last, store))

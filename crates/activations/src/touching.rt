@@ -1,9 +1,7 @@
 // The lines of the store that an access touches, and the most that are written.
-ghost use Rattle.std.specs.Prelude.{◌≡◌, ◌+◌, ◌-◌, ◌<◌, ◌≤◌, true, false, nat_lt, length, OnOk, IfErr};
-ghost use Rattle.activations.specs.Below.{byte_count, difference, has, held_at, line_of, lines_wanted, of_seat, page_count, start_of, write_count};
-ghost use Rattle.page_table.specs.Registers.{located_by};
-ghost use Rattle.romp_cpu.specs.Attempts.{lines_of_access};
-ghost use Rattle.activations.specs.Touched.{lines_between, wants_of, AreWanted};
+ghost use Rattle.std.specs.Prelude.{◌≡◌, ◌+◌, ◌-◌, ◌<◌, ◌≤◌, true, length};
+ghost use Rattle.activations.specs.Below.{byte_count, difference, has, line_of, lines_wanted, located_by, page_count, start_of};
+ghost use Rattle.activations.specs.Words.{AreWanted, held_to_write, IsSound, KeepsLimit, lines_accessed, lines_between, lines_with, live_in, wants_of, wrote};
 
 use super::activations::Activations;
 use super::touch::Touch;
@@ -15,19 +13,13 @@ use seats::Want;
 use storage_unit::PRIVATE;
 
 impl Activations {
-    ghost use Rattle.activations.specs.Activity.{live_in, program_in};
-    ghost use Rattle.activations.specs.Follows.{IsSound};
-    ghost use Rattle.activations.specs.Serving.{lines_with};
-    ghost use Rattle.activations.specs.Steps.{rolled};
-    ghost use Rattle.activations.specs.Stages.{EndsServing, IsOver};
-
     /// The lines of the store that an access of who sits in a seat touches.
     #[inline(always)]
     pub(super) fn touch_of(&self, seat: u8, access: Access) -> Touch
         requires taken { has self.now.seating.taken seat ≡ true }
         requires some { 0 < access.bytes }
         requires few { access.bytes ≤ 64 }
-        ensures lines { lines_wanted (wants_of result) ≡ lines_of_access (program_in self.now seat) self.now.reach.directory access }
+        ensures lines { lines_wanted (wants_of result) ≡ lines_accessed self.now seat access }
         ensures wanted { AreWanted self.now.reach.directory (wants_of result) }
         ensures sound { IsSound self.now }
     {
@@ -63,10 +55,7 @@ impl Activations {
     pub(super) fn keep_limit(&mut self, seat: u8, touch: &Touch) -> Result<(), TurnEnd>
         requires taken { has self.old.seating.taken seat ≡ true }
         requires wanted { AreWanted self.old.reach.directory (wants_of touch.now) }
-        ensures kept { OnOk result ((self.new ≡ self.old) × (nat_lt self.old.most_lines (lines_with self.old seat (wants_of touch.now)) ≡ false)) }
-        ensures journal { IfErr result (IsOver (lines_with self.old seat (wants_of touch.now)) self.old.most_lines) }
-        ensures rolled { IfErr result (λ end. self.new ≡ rolled self.old seat self.new.reach.pool) }
-        ensures over { IfErr result (EndsServing seat (wants_of touch.now) self.old self.new) }
+        ensures { KeepsLimit seat (wants_of touch.now) self.old self.new result }
     {
         let most = self.most_lines;
         let lines = self.lines_with(seat, touch);
@@ -99,7 +88,7 @@ impl Activations {
     #[inline(always)]
     fn held_lines(&self, seat: u8) -> u32
         requires seat { seat < 16 }
-        ensures value { result ≡ write_count (of_seat self.now.seating.holding seat) }
+        ensures value { result ≡ held_to_write self.now seat }
         ensures few { result ≤ 16384 }
         ensures sound { IsSound self.now }
     {
@@ -111,7 +100,7 @@ impl Activations {
     fn new_lines(&self, seat: u8, want: &Want) -> u32
         requires seat { seat < 16 }
         requires page { want.now.page < page_count self.now.reach.directory }
-        ensures value { result ≡ length (difference want.now.writes (held_at self.now.seating.holding seat want.now.page).1) }
+        ensures value { result ≡ length (difference want.now.writes (wrote self.now seat want.now.page)) }
         ensures few { result ≤ 16 }
     {
         let (_, writes) = self.seats.locks().held(seat, want.page);
@@ -124,7 +113,7 @@ impl Activations {
 fn touch_from(directory: &Directory, segment: u16, offset: u32, access: Access) -> Touch
     requires some { 0 < access.bytes }
     requires few { access.bytes ≤ 64 }
-    requires within { start_of directory.now segment + offset + access.bytes ≤ byte_count directory.now }
+    requires fits { start_of directory.now segment + offset + access.bytes ≤ byte_count directory.now }
     ensures lines { lines_wanted (wants_of result) ≡ lines_between (line_of directory.now (start_of directory.now segment + offset)) (line_of directory.now (start_of directory.now segment + offset + access.bytes - 1)) access.store }
     ensures wanted { AreWanted directory.now (wants_of result) }
 {

@@ -1,6 +1,6 @@
 // The rows of a turn, one after another.
 ghost use Rattle.std.specs.Prelude.{◌≡◌, ◌+◌, ◌<◌, ◌≤◌, ◌^◌, true, length, IfErr, IfOk, OnOk};
-ghost use Rattle.activations.specs.Below.{array_vec_len, has};
+ghost use Rattle.activations.specs.Below.{array_vec_len, has, number_in};
 
 use super::activations::Activations;
 use super::instructions::Went;
@@ -11,10 +11,7 @@ use romp_cpu::Access;
 use store::Durable;
 
 impl Activations {
-    ghost use Rattle.activations.specs.Kept.{IsSelected, KeepsParts, AreRowsWithin, StaysSeated};
-    ghost use Rattle.activations.specs.Stages.{RanWithin, CanFetch, CanServe, CountsPages, EndsByDisk, EndsRows, KeepsAll, StaysCalm, Turns, KeepsTurning, GoesFar};
-    ghost use Rattle.activations.specs.Turning.{MayBeShut, selected_in};
-    ghost use Rattle.seats.specs.Seating.{number_in};
+    ghost use Rattle.activations.specs.Words.{AreRowsWithin, CanFetch, CanServe, CountsPages, EndsByDisk, EndsRows, GoesFar, IsSelected, KeepsAll, KeepsParts, KeepsTurning, MayBeShut, RanWithin, selected_in, StaysCalm, StaysSeated, Turns};
 
     /// The rows of a turn of who sits in a seat, at most so many, up to his commit call. Nothing was counted before.
     ///
@@ -29,7 +26,7 @@ impl Activations {
         limit: u32,
         tally: &mut Tally,
     ) -> Result<(), TurnEnd>
-        requires can { CanFetch W.Outside self.old store.now outside.old }
+        requires can { CanFetch W.Outside self.old.reach.directory store.now outside.old }
         requires taken { has self.old.seating.taken seat ≡ true }
         requires limit { limit ≤ 1000000 }
         requires rows { AreRowsWithin self.old (2 ^ 63) }

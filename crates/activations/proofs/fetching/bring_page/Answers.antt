@@ -18,6 +18,6 @@ returns g c =
       came = on-ok _ _ c.bring_in.result way.came (came-resident c.args.unit.now c.args.page c.args.keep g.W.Outside c.args.store.now c.args.outside.now _ _);
       none = if-err _ _ c.bring_in.result way.out (λ gone. gone.none);
       keeps = λ committed is clean. either-way _ _ _ c.bring_in.result way.came way.out
-          (λ came. came-keeps c.args.unit.now c.args.page c.args.keep g.W.Outside c.args.store.now c.args.outside.now _ _ c.requires.store c.requires.page c.requires.absent came committed is clean)
+          (λ came. came-keeps c.args.unit.now c.args.page c.args.keep g.W.Outside c.args.store.now c.args.outside.now _ _ c.requires.can.directory c.requires.page c.requires.absent came committed is clean)
           (λ gone. out-keeps c.args.unit.now c.args.page c.args.keep _ gone c.requires.page c.requires.absent committed clean);
     }

@@ -1,9 +1,5 @@
-use Rattle.activations.proofs.Lemmas.{standing, RunsAt, ◌≡◌, ◌∙◌, sym, ap, subst, refl, ℕ, List, Bool, WasAttempted, printed_after, with_live, Activity, Live, Reach, IsSound, GivesRows, reach_of, not-printed, room, attempted-at}
+use Rattle.activations.proofs.Lemmas.{standing, RunsAt, ◌≡◌, ◌∙◌, sym, ap, subst, refl, ℕ, List, Bool, WasAttempted, printed_after, with_live, Activity, Live, Reach, IsSound, GivesRows, reach_of, not-printed, room, attempted-at, Cpu, IsOfFewBytes, at, how_went, ChangesBytes, StaysClean, LeavesSeats}
 use Rattle.romp_cpu.specs.declared.cpu.Attempt.{Attempt}
-use Rattle.romp_cpu.specs.declared.cpu.Cpu.{Cpu}
-use Rattle.romp_cpu.specs.Attempts.{IsOfFewBytes}
-use Rattle.romp_cpu.specs.Tried.{at, how_went}
-use Rattle.storage_unit.specs.Rows.{ChangesBytes, StaysClean, LeavesSeats}
 use Rattle.activations.proofs.rows.step_on.Goals as goal
 
 -- what a step came to, by how it went

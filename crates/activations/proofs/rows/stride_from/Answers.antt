@@ -1,7 +1,6 @@
-use Rattle.activations.proofs.Lemmas.{standing, RunsAt, Activity, WasAttempted, with_live, reach_of, ◌∙◌, Bool, ℕ, ap, subst, inl}
+use Rattle.activations.proofs.Lemmas.{standing, RunsAt, Activity, WasAttempted, with_live, reach_of, ◌∙◌, Bool, ℕ, ap, subst, inl, how_went}
 use Rattle.activations.proofs.StrideLemmas.{runs-none, runs-one, runs-to-fault, runs-to-end}
 use Rattle.romp_cpu.specs.declared.cpu.Attempt.{Attempt}
-use Rattle.romp_cpu.specs.Tried.{how_went}
 use Rattle.activations.proofs.rows.stride_from.Goals as goal
 
 pub loop-ran-init : goal.loop-ran-init

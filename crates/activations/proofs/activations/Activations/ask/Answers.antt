@@ -1,5 +1,4 @@
-use Rattle.activations.proofs.Lemmas.{AreWanted, Want, asking, activity_of, Inside, ◌≡◌, List, map, Activity, Touch, AreWithin, with_whole_page, taken-of, Seating, sitter, holders, desk_over, IsSound, KeepsParts, StandsStill, IsContested, tally_counts, wants_of, taken-below, ℕ, IsSome, ap, sym, ◌∙◌, subst, EndsContest, keeps-two, still-on, ok-then, some-holders, asked-within, sound-asking, asks-now, keeps-asking, still-asking, asked-whole}
-use Rattle.std.specs.Result.{IfErr}
+use Rattle.activations.proofs.Lemmas.{AreWanted, Want, asking, activity_of, Inside, ◌≡◌, List, map, Activity, Touch, AreWithin, with_whole_page, taken-of, Seating, sitter, holders, desk_over, IsSound, KeepsParts, StandsStill, IsContested, tally_counts, wants_of, taken-below, ℕ, IsSome, ap, sym, ◌∙◌, subst, EndsContest, keeps-two, still-on, ok-then, some-holders, asked-within, sound-asking, asks-now, keeps-asking, still-asking, asked-whole, IfErr}
 use Rattle.activations.proofs.activations.Activations.ask.Goals as goal
 
 -- what is asked for is of pages that are there

@@ -1,7 +1,6 @@
-use Rattle.activations.proofs.Common.{activity_of, Inside, Begun, reach_of, absent_segment, Activity, program_at, Program, first_registers, clear, registers_of_program, IsSound, ◌≡◌, ◌<◌, ℕ, List, ◌+◌, length, refl, sym, ap, ◌∙◌, arith, subst, slice_set, [], begins, begun_in, started}
-use Rattle.storage_unit.specs.Served.{begun}
+use Rattle.activations.proofs.Common.{activity_of, Inside, Begun, reach_of, absent_segment, Activity, program_at, Program, first_live, registers_of_program, IsSound, ◌≡◌, ◌<◌, ℕ, List, ◌+◌, length, refl, sym, ap, ◌∙◌, arith, subst, slice_set, BeginsSo, begins, begun_in, started, begun}
 use Rattle.desk.specs.declared.answers.Begun.TheVariants
-use Rattle.activations.proofs.BeginLemmas.{BeginsSo, begun-so, begins-full, begins-refused, begins-started, sound-begins, sound-given, is-code, is-fresh, has-room, some-next}
+use Rattle.activations.proofs.BeginLemmas.{begun-so, begins-full, begins-refused, begins-started, sound-begins, sound-given, is-code, is-fresh, has-room, some-next}
 use Rattle.activations.proofs.activations.Activations.begin.Goals.{In-Some-sit, After-start}
 use Rattle.activations.proofs.activations.Activations.begin.Goals as goal
 
@@ -15,19 +14,17 @@ said fields is whole program args told new known comes =
 -- all sixteen are taken
 pub returns-then-taken-eq16 : goal.returns-then-taken-eq16
 returns-then-taken-eq16 c =
-    let so = said c.self.inside c.self.view_is c.self.invariant c.args.program c.args.args _ _ c.requires.known
-    (begins-full (activity_of c.self.inside) c.args.program c.args.args c.self.invariant (let long = ap length c.taken.ensures.taken in omega (arith, long, c.if-taken-eq16.true))) in
-    record { answer = so.answer; left = so.left; is_begin = so.is_begin }
+    said c.self.inside c.self.view_is c.self.invariant c.args.program c.args.args _ _ c.requires.known
+    (begins-full (activity_of c.self.inside) c.args.program c.args.args c.self.invariant (let long = ap length c.taken.ensures.taken in omega (arith, long, c.if-taken-eq16.true)))
 
 -- a segment is absent
 pub returns-in-Some : goal.returns-in-Some
 returns-in-Some c =
     let a = activity_of c.self.inside in
-    let so = said c.self.inside c.self.view_is c.self.invariant c.args.program c.args.args _ _ c.requires.known
+    said c.self.inside c.self.view_is c.self.invariant c.args.program c.args.args _ _ c.requires.known
     (begins-refused a c.args.program c.args.args c.self.invariant c.in-Some.segment (has-room a c.self.invariant (λ same. c.if-taken-eq16.false (ap length c.taken.ensures.taken ∙ same)))
     ((λ i. absent_segment (sym c.directory-directory.ensures i) (sym (is-code a.programs c.args.program c.from.result c.index-code.result.now (subst (λ (x : Activity). c.args.program < length x.programs) (sym c.self.view_is) c.requires.known) c.from.ensures c.index-code.ensures) i).windows)
-    ∙ sym c.absent_segment.ensures ∙ c.in-Some.is)) in
-    record { answer = so.answer; left = so.left; is_begin = so.is_begin }
+    ∙ sym c.absent_segment.ensures ∙ c.in-Some.is))
 
 -- it sat down, since not all are taken
 pub returns-in_default-sit : goal.returns-in_default-sit
@@ -74,7 +71,7 @@ left c =
     let registers_are : c.registers_of-registers.result ≡ (started a c.args.program c.args.args c.in-Some-sit.seat).registers =
     c.registers_of-registers.ensures ∙ (λ i. registers_of_program (code_is i) (c.directory-directory.ensures i) (3840 + c.from-2.ensures i)) in
     let start_is : c.start.new.self ≡ started a c.args.program c.args.args c.in-Some-sit.seat = c.start.ensures
-    ∙ (λ i. record { cpu = record { regs = first_registers c.args.args; cs = clear; iar = (code_is i).entry; printed = 0 }; registers = registers_are i; out = [] }) in
+    ∙ (λ i. first_live (code_is i).entry c.args.args (registers_are i)) in
     let reach_is : reach_of c.begin.new.self ≡ begun a.reach c.in-Some-sit.seat (program_at a.programs c.args.program).image =
     c.begin.ensures ∙ ap (begun a.reach c.in-Some-sit.seat) (c.as_slice.ensures ∙ ap (λ (p : Program). p.image) code_is) in
     λ i. record a { next = a.next + 1; seating = c.in-Some-sit.ensures.seated i; live = slice_set a.live (c.from-3.ensures i) (start_is i); reach = reach_is i }
@@ -86,6 +83,5 @@ invariant_of-self-2 c =
 
 pub returns : goal.returns
 returns c =
-    let so = said c.self.inside c.self.view_is c.self.invariant c.args.program c.args.args _ _ c.requires.known
-    (goes (goal.at.returns c).In-Some-sit ∙ (λ i. (TheVariants.Started c.self.inside.next, sym (left (goal.at.returns c).After-start) i))) in
-    record { answer = so.answer; left = so.left; is_begin = so.is_begin }
+    said c.self.inside c.self.view_is c.self.invariant c.args.program c.args.args _ _ c.requires.known
+    (goes (goal.at.returns c).In-Some-sit ∙ (λ i. (TheVariants.Started c.self.inside.next, sym (left (goal.at.returns c).After-start) i)))

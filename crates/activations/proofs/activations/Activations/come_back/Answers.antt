@@ -4,7 +4,7 @@ use Rattle.activations.proofs.activations.Activations.come_back.Goals as goal
 
 pub returns-in_err-bring-clause-keeps : goal.returns-in_err-bring-clause-keeps
 returns-in_err-bring-clause-keeps g c =
-    let broke = c.in_err-bring.ensures.broke in
+    let broke = c.in_err-bring.ensures.brings.broke in
     record { asks = c.bring.ensures.asks; parts = keeps-broke c.args.self.now c.bring.new.self c.args.seat broke.pool _ broke.shape }
 
 pub returns-in_err-bring-clause-turns : goal.returns-in_err-bring-clause-turns
@@ -13,7 +13,7 @@ returns-in_err-bring-clause-turns g c begins left committed order some store tur
     let counts = tally_counts c.args.tally.now in let touch = c.touch_of-touch.result in
     let to = is-to-serve a c.args.seat c.in-Some.access (wants_of touch) c.touch_of-touch.ensures.sound c.requires.can.taken c.requires.can.selected (c.requires.shut c.in-Some.access c.in-Some.is) c.touch_of-touch.ensures.lines committed turning.follows in
     let broke = prepare-broke a c.args.seat committed order counts touch to.0 to.1 c.touch_of-touch.ensures.wanted (under a c.args.seat committed order touch to.0 to.1 c.touch_of-touch.ensures.wanted (sym c.is_granted.ensures ∙ c.if-not-is_granted.false))
-    g.W.Outside c.args.store.now c.args.outside.now new c.bring.new.tally.pages store c.in_err-bring.ensures.broke in
+    g.W.Outside c.args.store.now c.args.outside.now new c.bring.new.tally.pages store c.in_err-bring.ensures.brings.broke in
     handed (λ (r : Result _ TurnEnd). ComesBack r begins new c.args.seat left committed order (tally_counts c.bring.new.tally)) c.from_residual.result c.in_err-bring.field-0.0 c.from_residual.ensures.1
     (subst (λ (how : TurnEnd). HasEnded how begins new committed order (tally_counts c.bring.new.tally)) (sym c.in_err-bring.ensures.ends.is)
     (turn-ends begins a c.args.seat left committed order counts c.touch_of-touch.ensures.sound c.requires.can.taken some turning g.W.Outside c.args.outside.now c.bring.new.outside c.args.tally.now c.bring.new.tally end.Disk new refl c.bring.ensures.counts.more
@@ -27,7 +27,7 @@ returns-clause-turns g c begins left committed order some store turning =
     subst (λ (x : Activity). IsTurning begins x c.args.seat left committed order (tally_counts c.bring.new.tally)) (sym (c.look_up.ensures ∙ c.in_ok-bring.ensures.shape))
     (subst (λ (t : Tally). IsTurning begins (with_pool a c.bring.new.self.reach.pool) c.args.seat left committed order (tally_counts t)) (sym c.bring.ensures.counts.rest)
     (turn-back a c.args.seat committed order touch to.0 to.1 c.touch_of-touch.ensures.wanted (sym c.is_granted.ensures ∙ c.if-not-is_granted.false) begins left (tally_counts c.args.tally.now) c.bring.new.self.reach.pool c.bring.new.tally.pages some c.bring.ensures.counts.more
-    (c.in_ok-bring.ensures.fetched.fetched committed order store turning.follows.kept.clean) c.in_ok-bring.ensures.fetched.resident turning))
+    (c.in_ok-bring.ensures.brings.fetched.fetched committed order store turning.follows.kept.clean) c.in_ok-bring.ensures.brings.fetched.resident turning))
 
 pub returns-clause-keeps : goal.returns-clause-keeps
 returns-clause-keeps g c =

@@ -1,5 +1,5 @@
 use Rattle.activations.proofs.Lemmas.{refl}
 use Rattle.activations.proofs.activations.Activations.commit.Goals as goal
 
-pub returns-clause-commits : goal.returns-clause-commits
-returns-clause-commits c = c.end.ensures.commits refl
+pub returns : goal.returns
+returns c = c.end.ensures.commits refl

@@ -1,6 +1,6 @@
-use Rattle.activations.proofs.Lemmas.{taken-below, eq-eqb, ne_eqb, option_map, victim_of, number_in, seat_of, sitter, Seat, cycle_of, seat-found, Victim, Activity, Cycle, has, rolled, ComesToEnd, Contests, tally_counts, KeepsParts, StandsStill, ◌≡◌, ◌<◌, ◌==◌, true, false, ℕ, List, length, map, IsSome, refl, Some, sym, ◌∙◌, ap, arith, subst, keeps-itself, keeps-rolled, still-itself, still-rolled, tally-on}
+use Rattle.activations.proofs.Lemmas.{taken-below, eq-eqb, ne_eqb, option_map, victim_of, number_in, seat_of, sitter, Seat, cycle_of, seat-found, Victim, Activity, Cycle, has, rolled, ComesToEnd, Contests, FromContest, None, rules, tally_counts, KeepsParts, StandsStill, ◌≡◌, ◌<◌, ◌==◌, true, false, ℕ, List, length, map, IsSome, refl, Some, sym, ◌∙◌, ap, arith, subst, keeps-itself, keeps-rolled, still-itself, still-rolled, tally-on}
 use Rattle.activations.proofs.ContestLemmas.{fewer, contests-on, contests-lost, stays-taken, recorded, victim-sits, told-settles, told-stays}
-use Rattle.activations.proofs.activations.Activations.contend.Goals.{in-Some+in_default-seat_of, in_default}
+use Rattle.activations.proofs.activations.Activations.contend.Goals.{After-is_empty, in-Some+in_default-seat_of, in_default}
 use Rattle.activations.proofs.activations.Activations.contend.Goals as goal
 
 pub sitter-requires : goal.sitter-requires
@@ -81,32 +81,44 @@ loop-members-init c = record {
   rest = refl;
 }
 
-pub returns-then-is_empty-clause-settled : goal.returns-then-is_empty-clause-settled
-returns-then-is_empty-clause-settled c begins attempt refused first committed order number contested = elim c.match-cycle_from.branch [
+-- no cycle is shown any more: the victim of one that is shown sits somewhere
+none-shown : (c : After-is_empty) → FromContest c.args.seat c.args.self.now (tally_counts c.args.tally.now) (λ begins attempt refused first committed order. cycle_of c.loop-members.self.seating c.args.seat ≡ None)
+none-shown c begins attempt refused first committed order number contested = elim c.match-cycle_from.branch [
   | in-Some+in_default-seat_of w ↦
       let found : cycle_of c.loop-members.self.seating c.args.seat ≡ Some w.in-Some.members.items = sym c.cycle_from.ensures.cycle ∙ ap (option_map (λ cycle. cycle.items)) w.in-Some.is in
       let none = ap (seat_of c.loop-members.self.seating) (sym w.greatest-victim.ensures) ∙ sym w.seat_of.ensures ∙ w.in_default-seat_of.is in
       absurd (victim-sits c.args.seat c.args.self.now c.loop-members.self (tally_counts c.args.tally.now) (tally_counts c.loop-members.tally)
       c.cycle_from.ensures.sound c.loop-members.invariant.taken (c.loop-members.invariant.number ∙ ap (λ (who : _). who.number) c.sitter.ensures) c.loop-members.invariant.contests
       w.in-Some.members.items found none begins attempt refused first committed order number contested)
-  | in_default w ↦
-      told-settles c.args.seat c.args.self.now c.loop-members.self (tally_counts c.args.tally.now) (tally_counts c.loop-members.tally)
-      c.cycle_from.ensures.sound c.loop-members.invariant.taken (c.loop-members.invariant.number ∙ ap (λ (who : _). who.number) c.sitter.ensures) c.loop-members.invariant.contests
-      c.loop-members.invariant.waits (sym c.cycle_from.ensures.cycle ∙ ap (option_map (λ cycle. cycle.items)) w.in_default.is) c.awaited-holders.result.items c.awaited-holders.ensures
-      (sym c.is_empty.ensures ∙ c.if-is_empty.true) begins attempt refused first committed order number contested
+  | in_default w ↦ sym c.cycle_from.ensures.cycle ∙ ap (option_map (λ cycle. cycle.items)) w.in_default.is
 ]
 
-pub returns-else-is_empty-clause-settled : goal.returns-else-is_empty-clause-settled
-returns-else-is_empty-clause-settled c begins attempt refused first committed order number contested printed = elim c.match-cycle_from.branch [
-  | in-Some+in_default-seat_of w ↦
-      let found : cycle_of c.loop-members.self.seating c.args.seat ≡ Some w.in-Some.members.items = sym c.cycle_from.ensures.cycle ∙ ap (option_map (λ cycle. cycle.items)) w.in-Some.is in
-      let none = ap (seat_of c.loop-members.self.seating) (sym w.greatest-victim.ensures) ∙ sym w.seat_of.ensures ∙ w.in_default-seat_of.is in
-      absurd (victim-sits c.args.seat c.args.self.now c.loop-members.self (tally_counts c.args.tally.now) (tally_counts c.loop-members.tally)
-      c.cycle_from.ensures.sound c.loop-members.invariant.taken (c.loop-members.invariant.number ∙ ap (λ (who : _). who.number) c.sitter.ensures) c.loop-members.invariant.contests
-      w.in-Some.members.items found none begins attempt refused first committed order number contested)
-  | in_default w ↦
-      told-stays c.args.seat c.args.self.now c.loop-members.self (tally_counts c.args.tally.now) (tally_counts c.loop-members.tally)
-      c.cycle_from.ensures.sound c.loop-members.invariant.taken (c.loop-members.invariant.number ∙ ap (λ (who : _). who.number) c.sitter.ensures) c.loop-members.invariant.contests
-      c.loop-members.invariant.waits (sym c.cycle_from.ensures.cycle ∙ ap (option_map (λ cycle. cycle.items)) w.in_default.is) c.awaited-holders.result.items c.awaited-holders.ensures
-      (sym c.is_empty.ensures ∙ c.if-is_empty.false) begins attempt refused first committed order number contested
-]
+pub returns-then-is_empty : goal.returns-then-is_empty
+returns-then-is_empty c =
+    let inv = c.loop-members.invariant in
+    record {
+      keeps = inv.parts;
+      counts = record { cycles = inv.cycles; rest = inv.rest };
+      stays = inv.stays;
+      ends = tt;
+      settled = λ begins attempt refused first committed order number contested.
+          told-settles c.args.seat c.args.self.now c.loop-members.self (tally_counts c.args.tally.now) (tally_counts c.loop-members.tally)
+          c.cycle_from.ensures.sound inv.taken (inv.number ∙ ap (λ (who : _). who.number) c.sitter.ensures) inv.contests inv.waits
+          (none-shown (goal.at.returns-then-is_empty c).After-is_empty begins attempt refused first committed order number contested)
+          c.awaited-holders.result.items c.awaited-holders.ensures (sym c.is_empty.ensures ∙ c.if-is_empty.true) begins attempt refused first committed order number contested;
+    }
+
+pub returns-else-is_empty : goal.returns-else-is_empty
+returns-else-is_empty c =
+    let inv = c.loop-members.invariant in
+    record {
+      keeps = inv.parts;
+      counts = record { cycles = inv.cycles; rest = inv.rest };
+      stays = tt;
+      ends = first_of (search rules, grind arith);
+      settled = λ begins attempt refused first committed order number contested printed.
+          told-stays c.args.seat c.args.self.now c.loop-members.self (tally_counts c.args.tally.now) (tally_counts c.loop-members.tally)
+          c.cycle_from.ensures.sound inv.taken (inv.number ∙ ap (λ (who : _). who.number) c.sitter.ensures) inv.contests inv.waits
+          (none-shown (goal.at.returns-else-is_empty c).After-is_empty begins attempt refused first committed order number contested)
+          c.awaited-holders.result.items c.awaited-holders.ensures (sym c.is_empty.ensures ∙ c.if-is_empty.false) begins attempt refused first committed order number contested;
+    }

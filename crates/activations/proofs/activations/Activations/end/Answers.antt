@@ -1,6 +1,4 @@
-use Rattle.activations.proofs.Lemmas.{activity_of, Activity, reach_of, rolled, ◌≡◌, ◌∙◌, ap, sym, subst, shape-left, sound-after, rolls-left, commits-left, taken-of}
-use Rattle.activations.specs.Steps.{HasSettled, HasUndone, vacated, IsUndone, IsRolledBack, IsCommitted}
-use Rattle.storage_unit.specs.Served.{ended}
+use Rattle.activations.proofs.Lemmas.{activity_of, Activity, reach_of, rolled, ◌≡◌, ◌∙◌, ap, sym, subst, shape-left, sound-after, rolls-left, commits-left, taken-of, HasSettled, HasUndone, vacated, IsUndone, IsRolledBack, IsCommitted, ended}
 use Rattle.activations.proofs.activations.Activations.end.Goals as goal
 
 pub invariant_of-self : goal.invariant_of-self
@@ -20,9 +18,10 @@ returns c =
     let mid = c.end_written.ensures.rest ∙ ap (λ (p : _). record a.reach { pool = p }) same in
     let taken = taken-of c.self.inside c.self.view_is seat c.requires.taken in
     let sound = c.self.invariant in
+    let shape = shape-left a seat (reach_of c.end_written.new.unit) _ is c.end_written.ensures.rest ∙ ap (λ (x : Activity). rolled x seat pool) c.self.view_is in
     record {
-      shape = shape-left a seat (reach_of c.end_written.new.unit) _ is c.end_written.ensures.rest ∙ ap (λ (x : Activity). rolled x seat pool) c.self.view_is;
-      undone = λ not. subst (λ (x : Activity). IsUndone x seat pool) c.self.view_is (subst (HasUndone a.seating.holding seat a.reach) mid (c.end_written.ensures.undone not));
-      rolls = λ not. subst (λ (x : Activity). IsRolledBack x seat pool) c.self.view_is (rolls-left a seat pool (subst (HasUndone a.seating.holding seat a.reach) mid (c.end_written.ensures.undone not)) sound taken);
-      commits = λ so. subst (λ (x : Activity). IsCommitted x seat pool) c.self.view_is (commits-left a seat pool (subst (HasSettled a.seating.holding seat a.reach) mid (c.end_written.ensures.settled so)) sound taken);
+      rolls = λ not.
+          let undone = subst (HasUndone a.seating.holding seat a.reach) mid (c.end_written.ensures.undone not) in
+          record { shape = shape; undone = subst (λ (x : Activity). IsUndone x seat pool) c.self.view_is undone; rolls = subst (λ (x : Activity). IsRolledBack x seat pool) c.self.view_is (rolls-left a seat pool undone sound taken) };
+      commits = λ so. record { shape = shape; commits = subst (λ (x : Activity). IsCommitted x seat pool) c.self.view_is (commits-left a seat pool (subst (HasSettled a.seating.holding seat a.reach) mid (c.end_written.ensures.settled so)) sound taken) };
     }

@@ -11,30 +11,30 @@ returns g c =
     let runner = c.requires.can.selected.runner in let took = c.take.ensures.shape in
     let later = subst IsSound took c.sound-2.ensures.sound in
     let below : (page : ℕ) → has refused page ≡ true → page < length a.reach.entries =
-    λ page inside. subst (λ (n : ℕ). page < n) (sym sound.entries) (picked-below (page_count a.reach.directory) c.args.touch.now c.args.refused c.requires.wanted.within page inside) in
+    λ page inside. subst (λ (n : ℕ). page < n) (sym sound.entries) (picked-below (page_count a.reach.directory) c.args.touch.now c.args.refused c.requires.may.wanted.within page inside) in
     let grants = granted-same mid (locked a seat wants owned) seat wants refused a.reach.entries owned (ap (λ (x : Activity). x.seating) took) (ap (λ (x : Activity). x.reach.directory) took) c.take.ensures.granted in
     record {
       touches = ok-both c.bring.result
           (λ shape fetched. subst (λ (x : Activity). WillTouch x seat wants) (sym (shape ∙ ap (λ (x : Activity). with_pool x pool) took))
-          (got-touch a seat wants owned refused pool sound c.requires.can.taken runner (subst (λ (x : Activity). IsMoved x.reach.pool pool) took fetched.moved) c.requires.touches))
-          c.bring.ensures.shape c.bring.ensures.fetched;
+          (got-touch a seat wants owned refused pool sound c.requires.can.taken runner (subst (λ (x : Activity). IsMoved x.reach.pool pool) took fetched.moved) c.requires.may.touches))
+          c.bring.ensures.shape c.bring.ensures.brings.fetched;
       opened = ok-both c.bring.result
           (λ shape fetched. subst (λ (x : Activity). IsOpen x.reach (lines_wanted wants)) (sym (shape ∙ ap (λ (x : Activity). with_pool x pool) took))
-          (got-open a seat wants owned refused pool sound c.requires.can.taken runner (subst (λ (x : Activity). IsMoved x.reach.pool pool) took fetched.moved) later c.requires.wanted below grants c.requires.refused fetched.resident))
-          c.bring.ensures.shape c.bring.ensures.fetched;
+          (got-open a seat wants owned refused pool sound c.requires.can.taken runner (subst (λ (x : Activity). IsMoved x.reach.pool pool) took fetched.moved) later c.requires.may.wanted below grants c.requires.may.refused fetched.resident))
+          c.bring.ensures.shape c.bring.ensures.brings.fetched;
       keeps = record {
         asks = c.bring.ensures.asks;
-        parts = parts-by c.bring.result g.W.Outside c.args.store.now c.args.outside.now a mid new seat wants (pages_wanted wants) c.args.tally.now.pages counted took c.bring.ensures.shape c.bring.ensures.broke;
+        parts = parts-by c.bring.result g.W.Outside c.args.store.now c.args.outside.now a mid new seat wants (pages_wanted wants) c.args.tally.now.pages counted took c.bring.ensures.shape c.bring.ensures.brings.broke;
       };
       counts = c.bring.ensures.counts;
       on = search rules;
       ends = c.bring.ensures.ends;
       served = λ begins attempt next committed order is_store number goes lines free.
           subst (λ (counts : Counts). Serves c.bring.result begins new seat wants committed order counts) (sym (ap tally_counts c.bring.ensures.counts.rest))
-          (serves-by _ _ _ (EndsByDisk g.W.Outside c.args.outside.now c.bring.new.outside c.args.tally.now c.bring.new.tally) c.bring.result begins new seat wants committed order (record before { pages = counted }) c.bring.ensures.shape c.bring.ensures.fetched
-          (served-so begins attempt refused a seat committed order before wants owned sound c.requires.can.taken later c.requires.wanted number free lines below grants next goes
+          (serves-by _ _ _ (EndsByDisk g.W.Outside c.args.outside.now c.bring.new.outside c.args.tally.now c.bring.new.tally) c.bring.result begins new seat wants committed order (record before { pages = counted }) c.bring.ensures.shape c.bring.ensures.brings.fetched
+          (served-so begins attempt refused a seat committed order before wants owned sound c.requires.can.taken later c.requires.may.wanted number free lines below grants next goes
           g.W.Outside c.args.store.now c.args.outside.now mid new counted took is_store runner)
-          c.bring.ensures.ends (λ how off. off.is) c.bring.ensures.broke
-          (broken-so begins attempt refused a seat committed order before wants owned sound c.requires.can.taken later c.requires.wanted number free lines below grants next goes
+          c.bring.ensures.ends (λ how off. off.is) c.bring.ensures.brings.broke
+          (broken-so begins attempt refused a seat committed order before wants owned sound c.requires.can.taken later c.requires.may.wanted number free lines below grants next goes
           g.W.Outside c.args.store.now c.args.outside.now mid new counted took is_store));
     }

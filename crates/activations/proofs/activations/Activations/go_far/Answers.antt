@@ -1,6 +1,4 @@
-use Rattle.activations.specs.Below.{IsShutOut}
-use Rattle.activations.proofs.SittingLemmas.{sitter-there}
-use Rattle.activations.proofs.Lemmas.{activity_of, counted, MayBeShut, Program, Seat, plain_in, program_at, program_in, taken-below, ◌≡◌, Activity, counted-of, has, Seating, IsSound, KeepsParts, IsTurning, ◌+◌, ◌∙◌, arith, ap, sym, subst, keeps-counted, keeps-on, sound-counted, turn-strides}
+use Rattle.activations.proofs.Lemmas.{activity_of, counted, MayBeShut, Program, Seat, plain_in, program_at, program_in, taken-below, ◌≡◌, Activity, counted-of, has, Seating, IsSound, KeepsParts, IsTurning, ◌+◌, ◌∙◌, arith, ap, sym, subst, keeps-counted, keeps-on, sound-counted, turn-strides, IsShutOut, sitter-there}
 use Rattle.activations.proofs.activations.Activations.go_far.Goals as goal
 
 pub invariant_of-self : goal.invariant_of-self

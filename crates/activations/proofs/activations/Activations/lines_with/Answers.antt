@@ -1,13 +1,11 @@
-use Rattle.activations.proofs.Lemmas.{◌∙◌, arith, counts-none, counts-one, counts-two, first-within, second-within}
+use Rattle.activations.proofs.Lemmas.{◌∙◌, arith, counts-none, counts-one, counts-two, first_within, second_within}
 use Rattle.activations.proofs.activations.Activations.lines_with.Goals as goal
 
 pub new_lines-requires-in-Two-clause-page : goal.new_lines-requires-in-Two-clause-page
-new_lines-requires-in-Two-clause-page c =
-    first-within c.args.self.now c.args.seat c.held_lines-held.ensures.sound c.args.touch.now c.requires.wanted c.in-Two.first c.in-Two.second c.in-Two.is
+new_lines-requires-in-Two-clause-page c = first_within _ c.args.touch.now c.in-Two.first c.in-Two.second c.requires.wanted.within c.in-Two.is
 
 pub new_lines-requires-in-Two-2-clause-page : goal.new_lines-requires-in-Two-2-clause-page
-new_lines-requires-in-Two-2-clause-page c =
-    second-within c.args.self.now c.args.seat c.held_lines-held.ensures.sound c.args.touch.now c.requires.wanted c.in-Two.first c.in-Two.second c.in-Two.is
+new_lines-requires-in-Two-2-clause-page c = second_within _ c.args.touch.now c.in-Two.first c.in-Two.second c.requires.wanted.within c.in-Two.is
 
 pub returns-in-Nothing : goal.returns-in-Nothing
 returns-in-Nothing c = c.held_lines-held.ensures.value ∙ counts-none c.args.self.now c.args.seat c.held_lines-held.ensures.sound c.args.touch.now c.in-Nothing.is

@@ -1,10 +1,10 @@
-use Rattle.activations.proofs.Lemmas.{KeepsParts, keeps-pool, AreWithin, page_count, refl, Bool, List, ℕ, AreLetBut, WillTouch, IsMoved, pages_picked, picked-refused, taken-below, let-but, pages_refused, shut-touches, touch-on, TurnEnd, IsClean, Tally, Activity, HasBrokenOff, IsPrepared, Prepares, IsFetched, instruction_in, with_pool, wants_of, pages_wanted, HasEnded, HasBroken, tally_counts, asks_none, ◌+◌, Result, sym, ◌∙◌, ap, subst, keeps-left, keeps-broke, is-to-serve, prepare-broke, prepared-so, handed}
+use Rattle.activations.proofs.Lemmas.{AreWanted, KeepsParts, keeps-pool, AreWithin, page_count, refl, Bool, List, ℕ, AreLetBut, WillTouch, IsMoved, pages_picked, picked-refused, taken-below, let-but, pages_refused, shut-touches, touch-on, TurnEnd, IsClean, Tally, Activity, HasBrokenOff, IsPrepared, Prepares, IsFetched, instruction_in, with_pool, wants_of, pages_wanted, HasEnded, HasBroken, tally_counts, asks_none, ◌+◌, Result, sym, ◌∙◌, ap, subst, keeps-left, keeps-broke, is-to-serve, prepare-broke, prepared-so, handed}
 use Rattle.activations.proofs.activations.Activations.prepare.Goals as goal
 
 pub returns-in_err-keep_limit-clause-keeps : goal.returns-in_err-keep_limit-clause-keeps
 returns-in_err-keep_limit-clause-keeps g c = record {
   asks = asks_none g.W.Outside c.args.outside.now;
-  parts = keeps-left c.args.self.now c.keep_limit.new.self c.args.seat _ c.in_err-keep_limit.ensures.rolled;
+  parts = keeps-left c.args.self.now c.keep_limit.new.self c.args.seat _ c.in_err-keep_limit.ensures.back;
 }
 
 pub returns-in_err-keep_limit-clause-prepared : goal.returns-in_err-keep_limit-clause-prepared
@@ -17,13 +17,8 @@ returns-in_err-keep_limit-clause-prepared g c committed order is follows =
 
 pub returns-in_err-bring-clause-keeps : goal.returns-in_err-bring-clause-keeps
 returns-in_err-bring-clause-keeps g c =
-    let broke : HasBrokenOff g.W.Outside c.args.store.now c.args.outside.now c.args.self.now c.args.seat (pages_wanted (wants_of c.touch_of-touch.result)) c.args.tally.now.pages
-    c.bring.new.self c.bring.new.tally.pages =
-    subst
-    (λ (a : Activity). HasBrokenOff g.W.Outside c.args.store.now c.args.outside.now a c.args.seat (pages_wanted (wants_of c.touch_of-touch.result)) c.args.tally.now.pages
-    c.bring.new.self c.bring.new.tally.pages)
-    c.in_ok-keep_limit.ensures.kept.0 c.in_err-bring.ensures.broke in
-    record { asks = c.bring.ensures.asks; parts = keeps-broke c.args.self.now c.bring.new.self c.args.seat broke.pool _ broke.shape }
+    let broke = c.in_err-bring.ensures.brings.broke in
+    record { asks = c.bring.ensures.asks; parts = subst (λ (x : Activity). KeepsParts x c.bring.new.self 0) c.in_ok-keep_limit.ensures.kept.0 (keeps-broke c.keep_limit.new.self c.bring.new.self c.args.seat broke.pool _ broke.shape) }
 
 pub returns-in_err-bring-clause-prepared : goal.returns-in_err-bring-clause-prepared
 returns-in_err-bring-clause-prepared g c committed order is follows =
@@ -34,31 +29,28 @@ returns-in_err-bring-clause-prepared g c committed order is follows =
     let broke =
     prepare-broke a c.args.seat committed order counts c.touch_of-touch.result to.0 to.1 c.touch_of-touch.ensures.wanted c.in_ok-keep_limit.ensures.kept.1
     g.W.Outside c.args.store.now c.args.outside.now c.bring.new.self c.bring.new.tally.pages is
-    (subst
-    (λ (a : Activity). HasBrokenOff g.W.Outside c.args.store.now c.args.outside.now a c.args.seat (pages_wanted (wants_of c.touch_of-touch.result)) c.args.tally.now.pages
-    c.bring.new.self c.bring.new.tally.pages)
-    c.in_ok-keep_limit.ensures.kept.0 c.in_err-bring.ensures.broke) in
+    (subst (λ (a : Activity). HasBrokenOff g.W.Outside c.args.store.now c.args.outside.now a c.args.seat (pages_wanted (wants_of c.touch_of-touch.result)) c.args.tally.now.pages c.bring.new.self c.bring.new.tally.pages)
+    c.in_ok-keep_limit.ensures.kept.0 c.in_err-bring.ensures.brings.broke) in
     handed (λ (r : Result _ TurnEnd). Prepares r begins c.bring.new.self c.args.seat committed order (tally_counts c.bring.new.tally))
     c.from_residual-in_err-bring.result c.in_err-bring.field-0.0 c.from_residual-in_err-bring.ensures.1
     (subst (λ (how : TurnEnd). HasEnded how begins c.bring.new.self committed order (tally_counts c.bring.new.tally)) (sym c.in_err-bring.ensures.ends.is)
     (subst (λ (t : Tally). HasBroken begins c.bring.new.self committed order (tally_counts t)) (sym c.bring.ensures.counts.rest) broke))
 
-pub returns-clause-touches : goal.returns-clause-touches
-returns-clause-touches g c =
-    let a = c.args.self.now in let new = c.bring.new.self in
-    let wants = wants_of c.touch_of-touch.result in let same = c.in_ok-keep_limit.ensures.kept.0 in
-    let runner = c.requires.can.selected.runner in
-    let moved : IsMoved a.reach.pool new.reach.pool = subst (λ (x : Activity). IsMoved x.reach.pool new.reach.pool) same c.in_ok-bring.ensures.fetched.moved in
-    subst (λ (x : Activity). WillTouch x c.args.seat wants) (sym (c.in_ok-bring.ensures.shape ∙ ap (λ (x : Activity). with_pool x new.reach.pool) same))
-    (touch-on a (with_pool a new.reach.pool) c.args.seat wants refl runner runner refl refl (moved.private c.args.seat (taken-below a.seating c.touch_of-touch.ensures.sound.seating c.args.seat c.requires.can.taken))
-    (shut-touches a c.args.seat c.args.access wants c.requires.shut c.touch_of-touch.ensures.lines))
-
-pub returns-clause-refused : goal.returns-clause-refused
-returns-clause-refused g c =
-    let new = c.bring.new.self in let touch = c.touch_of-touch.result in
-    subst (λ (picked : Bool × Bool). AreLetBut new.reach.entries (c.args.seat + 1) (pages_picked touch picked) (wants_of touch)) (sym c.refused-refused.ensures)
-    (subst (λ (pages : List ℕ). AreLetBut new.reach.entries (c.args.seat + 1) pages (wants_of touch)) (sym (picked-refused new.reach.entries (c.args.seat + 1) touch))
-    (let-but new.reach.entries (c.args.seat + 1) (pages_refused new.reach.entries (c.args.seat + 1) (wants_of touch)) (wants_of touch) (λ page inside. inside)))
+pub returns-clause-may : goal.returns-clause-may
+returns-clause-may g c =
+    let a = c.args.self.now in let new = c.bring.new.self in let touch = c.touch_of-touch.result in
+    let wants = wants_of touch in let same = c.in_ok-keep_limit.ensures.kept.0 in
+    let runner = c.requires.can.selected.runner in let came = c.in_ok-bring.ensures.shape ∙ ap (λ (x : Activity). with_pool x new.reach.pool) same in
+    let moved : IsMoved a.reach.pool new.reach.pool = subst (λ (x : Activity). IsMoved x.reach.pool new.reach.pool) same c.in_ok-bring.ensures.brings.fetched.moved in
+    record {
+      wanted = subst (λ (x : Activity). AreWanted x.reach.directory wants) (sym came) c.touch_of-touch.ensures.wanted;
+      touches = subst (λ (x : Activity). WillTouch x c.args.seat wants) (sym came)
+          (touch-on a (with_pool a new.reach.pool) c.args.seat wants refl runner runner refl refl (moved.private c.args.seat (taken-below a.seating c.touch_of-touch.ensures.sound.seating c.args.seat c.requires.can.taken))
+          (shut-touches a c.args.seat c.args.access wants c.requires.shut c.touch_of-touch.ensures.lines));
+      refused = subst (λ (picked : Bool × Bool). AreLetBut new.reach.entries (c.args.seat + 1) (pages_picked touch picked) wants) (sym c.refused-refused.ensures)
+          (subst (λ (pages : List ℕ). AreLetBut new.reach.entries (c.args.seat + 1) pages wants) (sym (picked-refused new.reach.entries (c.args.seat + 1) touch))
+          (let-but new.reach.entries (c.args.seat + 1) (pages_refused new.reach.entries (c.args.seat + 1) wants) wants (λ page inside. inside)));
+    }
 
 pub returns-clause-prepared : goal.returns-clause-prepared
 returns-clause-prepared g c committed order is follows =
@@ -68,9 +60,8 @@ returns-clause-prepared g c committed order is follows =
     c.touch_of-touch.ensures.lines committed follows in
     let same = c.in_ok-keep_limit.ensures.kept.0 in
     let fetched : IsFetched a committed order (pages_wanted (wants_of c.touch_of-touch.result)) c.args.tally.now.pages new.reach.pool c.bring.new.tally.pages =
-    subst
-    (λ (x : Activity). IsClean x.reach.directory x.reach.pool committed → IsFetched x committed order (pages_wanted (wants_of c.touch_of-touch.result)) c.args.tally.now.pages new.reach.pool c.bring.new.tally.pages)
-    same (c.in_ok-bring.ensures.fetched.fetched committed order is) follows.kept.clean in subst
+    subst (λ (x : Activity). IsClean x.reach.directory x.reach.pool committed → IsFetched x committed order (pages_wanted (wants_of c.touch_of-touch.result)) c.args.tally.now.pages new.reach.pool c.bring.new.tally.pages)
+    same (c.in_ok-bring.ensures.brings.fetched.fetched committed order is) follows.kept.clean in subst
     (λ (t : Tally). IsPrepared begins new c.args.seat c.touch_of-touch.result c.refused-refused.result committed order (record (tally_counts t) { locks = t.locks + (c.from.result + c.from-2.result) }))
     (sym c.bring.ensures.counts.rest)
     (prepared-so a c.args.seat committed order counts c.touch_of-touch.result to.0 to.1 c.touch_of-touch.ensures.wanted c.in_ok-keep_limit.ensures.kept.1 new.reach.pool c.bring.new.tally.pages

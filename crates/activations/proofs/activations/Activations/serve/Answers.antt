@@ -1,4 +1,4 @@
-use Rattle.activations.proofs.Lemmas.{◌+◌, let-on, touch-on, number_in, TurnEnd, Tally, IsInstruction, instruction_in, tally_counts, Result, ap, arith, sym, ◌∙◌, total, asks_only, store-on, keeps-all-on, keeps-all-then, handed, ended-by-disk}
+use Rattle.activations.proofs.Lemmas.{◌+◌, AreWanted, Layout, wants_of, let-on, touch-on, number_in, TurnEnd, Tally, IsInstruction, instruction_in, tally_counts, Result, ap, arith, subst, sym, ◌∙◌, total, asks_only, store-on, keeps-all-on, keeps-all-then, handed, ended-by-disk}
 use Rattle.activations.proofs.activations.Activations.serve.Goals as goal
 
 pub returns-in_err-touch-clause-served : goal.returns-in_err-touch-clause-served
@@ -23,7 +23,7 @@ returns-in_err-get-clause-keeps g c =
 
 pub returns-in_err-get-clause-over : goal.returns-in_err-get-clause-over
 returns-in_err-get-clause-over g c =
-    let asked = ap (λ (tally : Tally). tally.pages) c.ask.ensures.counts.rest in let few = c.prepare.ensures.few.0 in
+    let asked = ap (λ (tally : Tally). tally.pages) c.ask.ensures.counts.rest in let few = c.prepare.ensures.counts.more in
     ended-by-disk g.W.Outside (number_in c.args.self.now.seating c.args.seat) c.get.new.self c.args.outside.now c.prepare.new.outside c.get.new.outside c.args.tally.now c.ask.new.tally c.get.new.tally
     c.from_residual-in_err-get.result c.in_err-get.field-0.0 c.from_residual-in_err-get.ensures.1 c.in_ok-touch.ensures.on.calm (omega (arith, asked, few)) c.in_err-get.ensures.ends
 
@@ -61,13 +61,12 @@ get-requires-clause-can g c = record {
   selected = c.in_ok-ask.ensures.stays.seated.selected (c.in_ok-touch.ensures.on.stays.selected c.requires.can.selected);
 }
 
-pub get-requires-clause-touches : goal.get-requires-clause-touches
-get-requires-clause-touches g c =
-    let still = c.in_ok-ask.ensures.stays in
+pub get-requires-clause-may : goal.get-requires-clause-may
+get-requires-clause-may g c =
+    let may = c.in_ok-touch.ensures.may in let still = c.in_ok-ask.ensures.stays in
     let selected = c.in_ok-touch.ensures.on.stays.selected c.requires.can.selected in
-    touch-on c.prepare.new.self c.ask.new.self c.args.seat _ c.ask.ensures.keeps.directory selected.runner (still.seated.selected selected).runner
-    still.program still.live still.private c.in_ok-touch.ensures.touches
-
-pub get-requires-clause-refused : goal.get-requires-clause-refused
-get-requires-clause-refused g c =
-    let-on c.prepare.new.self.reach.entries c.ask.new.self.reach.entries (c.args.seat + 1) _ _ c.in_ok-ask.ensures.stays.own c.in_ok-touch.ensures.refused
+    record {
+      wanted = subst (λ (d : Layout). AreWanted d (wants_of c.in_ok-touch.touch)) (sym c.ask.ensures.keeps.directory) may.wanted;
+      touches = touch-on c.prepare.new.self c.ask.new.self c.args.seat _ c.ask.ensures.keeps.directory selected.runner (still.seated.selected selected).runner still.program still.live still.private may.touches;
+      refused = let-on c.prepare.new.self.reach.entries c.ask.new.self.reach.entries (c.args.seat + 1) _ _ still.own may.refused;
+    }

@@ -1,5 +1,4 @@
-use Rattle.activations.proofs.Lemmas.{IsSound, Activity, subst, frames-fit}
-use Rattle.activations.specs.Follows.{HasFrames}
+use Rattle.activations.proofs.Lemmas.{IsSound, Activity, subst, frames-fit, HasFrames}
 use Rattle.activations.proofs.activations.Activations.sound.Goals as goal
 
 pub returns : goal.returns

@@ -1,6 +1,4 @@
-use Rattle.activations.proofs.Common.{activity_of, Inside, List, Live, reprinted, Activity, live_in, IsSound, KeepsDesk, ◌≡◌, ℕ, sym, ap, ◌∙◌, subst, slice_set}
-use Rattle.activations.proofs.FieldLemmas.{lives-of}
-use Rattle.activations.proofs.SittingLemmas.{sound-reprinted, follows-reprinted}
+use Rattle.activations.proofs.Lemmas.{activity_of, Inside, List, Live, reprinted, Activity, live_in, IsSound, KeepsDesk, ◌≡◌, ℕ, sym, ap, ◌∙◌, subst, slice_set, lives-of, sound-reprinted, follows-reprinted}
 use Rattle.activations.proofs.activations.Activations.swap_printed.Goals as goal
 
 -- what was printed there is another

@@ -12,8 +12,8 @@ returns-then-first-ge-PRIVATE-clause-lines c =
     touches-private c.args.self.now c.args.seat (subst IsSound c.self.view_is c.self.invariant) c.requires.taken (subst (λ (x : Activity). IsLegal x.reach.directory.segments) c.self.view_is c.self.inside.unit.legal) c.args.access c.in-Ok.first
     (sym c.locate.ensures ∙ c.in-Ok.is) own
 
-pub touch_from-requires-clause-within : goal.touch_from-requires-clause-within
-touch_from-requires-clause-within c =
+pub touch_from-requires-clause-fits : goal.touch_from-requires-clause-fits
+touch_from-requires-clause-fits c =
     let low : is_private c.in-Ok.first.segment ≡ false = grind (arith, nat_tests, c.if-first-ge-PRIVATE.false) in
     subst (λ (d : Layout). start_of d c.in-Ok.first.segment + c.args.access.address % 2 ^ 28 + c.args.access.bytes ≤ byte_count d) (ap (λ (x : Activity). x.reach.directory) (sym c.self.view_is) ∙ sym c.directory-directory.ensures)
     (touches-within c.args.self.now c.args.seat (subst IsSound c.self.view_is c.self.invariant) c.requires.taken (subst (λ (x : Activity). IsLegal x.reach.directory.segments) c.self.view_is c.self.inside.unit.legal) c.args.access c.in-Ok.first
