@@ -192,8 +192,7 @@ module _ (a : Activity) (program : ℕ) (args : List ℕ) (seat : ℕ) (sound : 
       set-up-old at old =
           let was = sound.set_up at old in let differs = elsewhere at old in
           let sitter_is : sitter new.seating at ≡ sitter a.seating at = sitter-other a.seating seat who at differs in
-          let live_is : live_in new at ≡ live_in a at = live-other a.live seat (started a program args seat) at differs in
-          record {
+          let live_is : live_in new at ≡ live_in a at = live-other a.live seat (started a program args seat) at differs in record {
             program = subst (λ (s : Seat). s.program < length a.programs) (sym sitter_is) was.program;
             begun = get_or-set_other a.reach.begun seat at true false (eqb-false at seat differs) ∙ was.begun;
             registers = ap (λ (l : Live). l.registers) live_is ∙ was.registers ∙ ap (λ (e : Entry). registers_of_program e.runs.program a.reach.directory (private_segment at)) (sym (entry-old at differs));
@@ -327,8 +326,7 @@ module _ (a : Activity) (program : ℕ) (args : List ℕ) (sound : IsSound a) (k
             let (below, free, room) = some-next a seat sound e in
             record { is_step = λ order. with_room order (Some segment) room lacks; follows = follows-given a committed follows }
         by_cases (Some seat) e None lacks =
-            let (below, free, room) = some-next a seat sound e in
-            record {
+            let (below, free, room) = some-next a seat sound e in record {
               is_step = λ order.
                   with_room order None room lacks
                   ∙ (λ i. record { desk = sym (desk-begun a program args seat sound below free committed order) i; happening = Began a.next program });

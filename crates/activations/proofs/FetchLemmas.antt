@@ -90,8 +90,7 @@ module _ (directory : Layout) (old new : Pool) (page : ℕ) (keep : Option ℕ) 
 
   pub moved-filled : IsMoved old (filled new page frame bytes)
   moved-filled =
-      let stays = (room-stays old keep fits.seen).1 in let is = laid-bytes read page in
-      record {
+      let stays = (room-stays old keep fits.seen).1 in let is = laid-bytes read page in record {
         marked = ap (λ (pool : Pool). pool.marked) is ∙ ap (λ (pool : Pool). pool.marked) came.rest ∙ stays.marked;
         private = λ seat few.
             let count : ℕ = seat * 16384 + 16384 - seat * 16384 in
@@ -105,8 +104,7 @@ module _ (directory : Layout) (old new : Pool) (page : ℕ) (keep : Option ℕ) 
 -- pages that all go out
 pub moved-emptied : (old pool : Pool) → IsMoved old pool → IsMoved old (emptied pool)
 moved-emptied old pool moved =
-    let stays = emptied-stays pool in
-    record {
+    let stays = emptied-stays pool in record {
       marked = stays.marked ∙ moved.marked;
       private = λ seat few. ap (λ (bytes : List ℕ). private_bytes (record pool { bytes = bytes }) seat) stays.bytes ∙ moved.private seat few;
       size = stays.page ∙ moved.size;
@@ -143,8 +141,7 @@ keeps-other pool other page seen inside = by_room (nat_lt (length pool.resident)
 pub came-in : (unit now : Unit) (page : ℕ) (keep : Option ℕ) (counted : ℕ) → has unit.pool.resident page ≡ false
     → now.pool.resident ≡ brought unit.pool.frames (option_to_list keep) unit.pool.resident page → IsIn unit.pool now.pool page keep counted (counted + 1)
 came-in unit now page keep counted absent came =
-    let pool = unit.pool in
-    record {
+    let pool = unit.pool in record {
       resident = came ∙ sym (ap (λ (there : Bool). if there then pool.resident else brought pool.frames (option_to_list keep) pool.resident page) absent);
       counted = sym (ap (λ (there : Bool). if there then counted else counted + 1) absent);
       stays = λ other is inside.

@@ -1,5 +1,5 @@
 -- What stays while those that run are served: of a rollback of another, and one after another.
-use Rattle.activations.proofs.Common.{◌≡◌, refl, ℕ, ◌+◌, ◌≤◌, ◌==◌, not, if◌then◌else◌, Bool, true, false, List, [], ◌∷◌, filter, length, None, replicate, Result, Ok, Err, OnOk, arith, ap, sym, ◌∙◌, subst, has, has-filter, ArrayVec, Cycle, Pool, Tally, Activity, IsSelected, TookEffect, HasUndone, KeepsParts, StandsStill, StaysSeated, Want, Authority, cleared_entry, unowned, map, slice_index_or, slice_range, zero, suc, ◌*◌, locked, rolled, with_pool, Ghosts, FewerLater, asks_on, nat_tests, KeepsAll, IfErr, IsErrAnd, Rose, TurnEnd, EndsRows, EndsByDisk}
+use Rattle.activations.proofs.Common.{◌≡◌, refl, ℕ, ◌+◌, ◌≤◌, ◌==◌, not, if◌then◌else◌, Bool, true, false, List, [], ◌∷◌, filter, length, None, replicate, Result, Ok, Err, OnOk, arith, ap, sym, ◌∙◌, subst, has, has-filter, ArrayVec, Cycle, Pool, Tally, Activity, IsSelected, TookEffect, HasUndone, KeepsParts, StandsStill, StaysSeated, Want, Authority, cleared_entry, unowned, map, slice_index_or, slice_range, zero, suc, ◌*◌, locked, rolled, with_pool, Ghosts, FewerLater, asks_on, nat_tests, KeepsAll, IfErr, IsErrAnd, Rose, TurnEnd, EndsRows, EndsByDisk, ComesOut, Instructs, KeptStore, Word, Turning, Counts}
 
 -- none more are left of those but one
 pub no-more : (taken : List ℕ) (seat : ℕ) → length (filter (λ other. not (other == seat)) taken) ≤ length taken
@@ -39,8 +39,7 @@ stays-rolled first a seat loser pool stays inside = record {
   number = stays.number;
   selected = λ is.
       let was : IsSelected a seat = stays.selected is in
-      let other : (a.reach.runner == loser + 1) ≡ false = apart was.runner in
-      record {
+      let other : (a.reach.runner == loser + 1) ≡ false = apart was.runner in record {
         runner = ap (λ (b : Bool). if b then 0 else a.reach.runner) other ∙ was.runner;
         registers = ap (λ (b : Bool). if b then record { page = a.reach.directory.page; list = replicate 16 None } else a.reach.registers) other ∙ was.registers;
       };
@@ -145,6 +144,17 @@ keeps-all-then G a b c u v first second = record { asks = first.asks; parts = ke
 pub handed : {T : Type 0} (P : Result T TurnEnd → Type 0) (result : Result T TurnEnd) (end : TurnEnd) → IsErrAnd result (λ told. told ≡ end) → P (Err end) → P result
 handed P (Ok it) end is said = absurd is
 handed P (Err told) end is said = subst (λ (how : TurnEnd). P (Err how)) (sym is) said
+
+-- a stage that ended the turn ends the whole instruction so
+pub ended-so : {T V W : Type 0} {G : Ghosts W} {store : KeptStore} {seat : ℕ} {old new : Activity} {outside later : W} {before after : Tally}
+    {how : TurnEnd} {one : Result T TurnEnd → (Word → Turning) → Activity → ℕ → List ℕ → List (ℕ × ℕ) → Counts → Type 0}
+    → (other : Result V TurnEnd → (Word → Turning) → Activity → ℕ → List ℕ → List (ℕ × ℕ) → Counts → Type 0) (result : Result V TurnEnd)
+    → IsErrAnd result (λ told. told ≡ how) → ComesOut G store seat old new outside later before after (Err how) one
+    → (Instructs G store outside seat old new before after (one (Err how)) → Instructs G store outside seat old new before after (other (Err how)))
+    → ComesOut G store seat old new outside later before after result other
+ended-so {V = V} {G = G} {store = store} {seat = seat} {old = old} {new = new} {outside = outside} {later = later} {before = before} {after = after} {how = how} other result told came same =
+    handed (λ (r : Result V TurnEnd). ComesOut G store seat old new outside later before after r other) result how told
+    (record { keeps = came.keeps; on = tt; over = came.over; no_limit = came.no_limit; step = same came.step })
 
 -- a page couldn't be read, where the disk's count had stayed before and no page was counted that isn't now
 pub ended-by-disk : {U W : Type 0} (G : Ghosts W) (number : ℕ) (a : Activity) (before mid after : W) (old between new : Tally) (result : Result U TurnEnd) (how : TurnEnd) → IsErrAnd result (λ told. told ≡ how)

@@ -105,8 +105,7 @@ pub frames-fit : (unit : Unit) → HasFrames (reach_of unit)
 frames-fit unit =
     let seen = unit.fits.seen in
     let within : (page : ℕ) → IsTrue (has unit.pool.resident page) → page < page_count unit.directory = λ page is.
-    grind (arith, within-places unit.pool.frame_of page, seen.resident page, unit.fits.pages, is) in
-    record {
+    grind (arith, within-places unit.pool.frame_of page, seen.resident page, unit.fits.pages, is) in record {
       some = seen.some;
       resident = record { few = seen.few; once = distinct unit.pool.resident seen.apart; within = within };
     }

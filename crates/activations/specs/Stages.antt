@@ -176,7 +176,8 @@ Fetches (Err failed) G store outside a pages before pool after =
     (committed : List ℕ) (order : List (ℕ × ℕ)) → IsStoreOf G store outside committed → IsClean a.reach.directory a.reach.pool committed → IsBrokenOff a committed order pages before pool after
 
 -- the pages of what is wanted have come in, or one couldn't be read and who sits in a seat was rolled back
-pub record BringsIn {T W : Type 0} (G : Ghosts W) (store : KeptStore) (outside : W) (seat : ℕ) (wants : List Want) (old new : Activity) (before after : Tally) (result : Result T TurnEnd) : Type 0 where
+pub record BringsIn {T W : Type 0} (G : Ghosts W) (store : KeptStore) (outside : W) (seat : ℕ) (wants : List Want)
+    (old new : Activity) (before after : Tally) (result : Result T TurnEnd) : Type 0 where
   pub fetched : OnOk result (HasFetched G store outside old (pages_wanted wants) before.pages new.reach.pool after.pages)
   pub broke : IfErr result (λ over. HasBrokenOff G store outside old seat (pages_wanted wants) before.pages new after.pages)
 
@@ -202,7 +203,8 @@ SettlesAsked seat wants old new before after result =
     → IsAsked begins attempt refused old seat wants committed order (tally_counts before) → IsSettled result begins attempt refused new committed order (tally_counts after)
 
 -- What who sits in a seat asks for is disputed: cycles alone are counted, he stands as he stood or it ended his turn, and it is settled so.
-pub record Disputes {U : Type 0} (settles : (old new : Activity) → (before after : Tally) → Result U TurnEnd → Type 0) (seat : ℕ) (old new : Activity) (before after : Tally) (result : Result U TurnEnd) : Type 0 where
+pub record Disputes {U : Type 0} (settles : (old new : Activity) → (before after : Tally) → Result U TurnEnd → Type 0)
+    (seat : ℕ) (old new : Activity) (before after : Tally) (result : Result U TurnEnd) : Type 0 where
   pub keeps : KeepsParts old new 0
   pub counts : CountsCycles new before after
   pub stays : OnOk result (StandsStill old new seat)
@@ -245,6 +247,15 @@ abbrev pub Instructs :
 Instructs G store outside seat old new before after comes =
     (committed : List ℕ) (order : List (ℕ × ℕ)) → IsStoreOf G store outside committed → KeepsDesk old committed
     → comes (instruction_in old seat committed order (tally_counts before)) new seat committed order (tally_counts after)
+
+-- A stage of an instruction keeps what stays; it goes on, or ended the turn for a cause and not since it may run no more; and it comes to this.
+pub record ComesOut {U W : Type 0} (G : Ghosts W) (store : KeptStore) (seat : ℕ) (old new : Activity) (outside later : W) (before after : Tally)
+    (result : Result U TurnEnd) (comes : Result U TurnEnd → (Word → Turning) → Activity → ℕ → List ℕ → List (ℕ × ℕ) → Counts → Type 0) : Type 0 where
+  pub keeps : KeepsAll G old new 0 outside later
+  pub on : OnOk result (StaysCalm G old new seat outside later)
+  pub over : IfErr result (EndsRows G (number_in old.seating seat) new outside later before after)
+  pub no_limit : IfErr result IsNoLimit
+  pub step : Instructs G store outside seat old new before after (comes result)
 
 -- and so do the rows of a turn
 abbrev pub Turns : {U W : Type 0} → Ghosts W → KeptStore → W → (seat limit : ℕ) → (old new : Activity) → (before after : Tally) → Result U TurnEnd → Type 0

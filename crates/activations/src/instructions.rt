@@ -1,6 +1,6 @@
 // One instruction of who sits in a seat: it takes effect, once its access has been served where it must be.
 ghost use Rattle.std.specs.Prelude.{◌≡◌, ◌+◌, ◌<◌, ◌≤◌, ◌^◌, true, length, IfErr, IfOk, OnOk};
-ghost use Rattle.activations.specs.Below.{array_vec_len, has, IsOpen, lines_wanted, number_in, OnlyAsks};
+ghost use Rattle.activations.specs.Below.{array_vec_len, has, IsOpen, lines_wanted, OnlyAsks};
 ghost use Rattle.desk.specs.declared.answers.TurnEnd.TheVariants as end;
 
 use super::activations::Activations;
@@ -21,7 +21,7 @@ pub enum Went {
 }
 
 impl Activations {
-    ghost use Rattle.activations.specs.Words.{AreWanted, BringsIn, CanFetch, CanServe, CountsOne, CountsPages, CountsRefused, Disputes, EndsByDisk, EndsChecked, EndsRows, GoesServed, HasRoom, Instructs, IsInstruction, IsNoLimit, IsSelected, IsShut, IsStep, KeepsAll, KeepsParts, live_in, MayBeShut, MayGet, pages_picked, Prepares, rolled, ServesFree, SettlesAsked, StaysCalm, StaysSeated, wants_of, WillTouch, with_pool};
+    ghost use Rattle.activations.specs.Words.{AreWanted, BringsIn, CanFetch, CanServe, ComesOut, CountsOne, CountsPages, CountsRefused, Disputes, EndsByDisk, EndsChecked, GoesServed, HasRoom, IsInstruction, IsSelected, IsShut, IsStep, KeepsAll, KeepsParts, live_in, MayBeShut, MayGet, pages_picked, Prepares, rolled, ServesFree, SettlesAsked, StaysCalm, StaysSeated, wants_of, WillTouch, with_pool};
 
     /// The next instruction of who sits in a seat, which is selected. Its access may be known already not to be permitted. A
     /// row that takes effect isn't counted yet.
@@ -40,12 +40,8 @@ impl Activations {
         requires can { CanServe W.Outside self.old seat store.now outside.old }
         requires room { HasRoom self.old tally.old }
         requires shut { MayBeShut self.old seat shut }
-        ensures keeps { KeepsAll W.Outside self.old self.new 0 outside.old outside.new }
         ensures counts { CountsOne self.new tally.old tally.new }
-        ensures on { OnOk result (StaysCalm W.Outside self.old self.new seat outside.old outside.new) }
-        ensures over { IfErr result (EndsRows W.Outside (number_in self.old.seating seat) self.new outside.old outside.new tally.old tally.new) }
-        ensures no_limit { IfErr result IsNoLimit }
-        ensures step { Instructs W.Outside store.now outside.old seat self.old self.new tally.old tally.new (IsStep result) }
+        ensures came { ComesOut W.Outside store.now seat self.old self.new outside.old outside.new tally.old tally.new result IsStep }
     {
         if let Some(access) = shut {
             self.serve(store, outside, seat, access, tally)?;
@@ -83,12 +79,8 @@ impl Activations {
         requires can { CanServe W.Outside self.old seat store.now outside.old }
         requires room { HasRoom self.old tally.old }
         requires shut { IsShut self.old seat access }
-        ensures keeps { KeepsAll W.Outside self.old self.new 0 outside.old outside.new }
         ensures counts { CountsOne self.new tally.old tally.new }
-        ensures on { OnOk result (StaysCalm W.Outside self.old self.new seat outside.old outside.new) }
-        ensures over { IfErr result (EndsRows W.Outside (number_in self.old.seating seat) self.new outside.old outside.new tally.old tally.new) }
-        ensures no_limit { IfErr result IsNoLimit }
-        ensures served { Instructs W.Outside store.now outside.old seat self.old self.new tally.old tally.new (IsInstruction result) }
+        ensures came { ComesOut W.Outside store.now seat self.old self.new outside.old outside.new tally.old tally.new result IsInstruction }
     {
         let (touch, refused) = self.prepare(store, outside, seat, access, tally)?;
         self.ask(seat, &touch, tally)?;
@@ -115,12 +107,8 @@ impl Activations {
         requires shut { IsShut self.old seat access }
         requires tally { (tally.old.pages < 6000000) × (tally.old.locks < 2000000) }
         ensures may { IfOk result (λ got. MayGet self.new seat got.0 got.1) }
-        ensures keeps { KeepsAll W.Outside self.old self.new 0 outside.old outside.new }
         ensures counts { CountsRefused tally.old tally.new }
-        ensures on { OnOk result (StaysCalm W.Outside self.old self.new seat outside.old outside.new) }
-        ensures over { IfErr result (EndsRows W.Outside (number_in self.old.seating seat) self.new outside.old outside.new tally.old tally.new) }
-        ensures no_limit { IfErr result IsNoLimit }
-        ensures prepared { Instructs W.Outside store.now outside.old seat self.old self.new tally.old tally.new (Prepares result) }
+        ensures came { ComesOut W.Outside store.now seat self.old self.new outside.old outside.new tally.old tally.new result Prepares }
     {
         let touch = self.touch_of(seat, access);
         self.keep_limit(seat, &touch)?;

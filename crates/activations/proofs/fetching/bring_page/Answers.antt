@@ -4,8 +4,7 @@ use Rattle.activations.proofs.fetching.bring_page.Goals as goal
 pub returns : goal.returns
 returns g c =
     let way = c.bring_in.ensures in
-    let asked = came-asked c.args.unit.now c.args.page c.args.keep g.W.Outside c.args.store.now c.args.outside.now _ _ in
-    record {
+    let asked = came-asked c.args.unit.now c.args.page c.args.keep g.W.Outside c.args.store.now c.args.outside.now _ _ in record {
       asks = either-way _ _ _ c.bring_in.result way.came way.unread (λ came. (asked came).0) (λ off. off.0);
       rest = search rules;
       cause = record {

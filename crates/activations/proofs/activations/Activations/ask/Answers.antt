@@ -35,8 +35,7 @@ returns c =
     let mid = record (activity_of c.self.inside) { seating = c.wait.new.self } in
     let is : mid ≡ asking a seat request = (λ i. record (activity_of c.self.inside) { seating = c.wait.ensures i }) ∙ ap (λ (x : Activity). asking x seat request) c.self.view_is in
     let still = subst (λ (x : Activity). StandsStill a x seat) (sym is) (still-asking a seat request sound c.requires.taken) in
-    let keeps = subst (λ (x : Activity). KeepsParts a x 0) (sym is) (keeps-asking a seat request sound c.requires.taken) in
-    record {
+    let keeps = subst (λ (x : Activity). KeepsParts a x 0) (sym is) (keeps-asking a seat request sound c.requires.taken) in record {
       keeps = keeps-two a mid c.contend.new.self keeps c.contend.ensures.keeps;
       counts = c.contend.ensures.counts;
       stays = ok-then c.contend.result (still-on a mid c.contend.new.self seat still) c.contend.ensures.stays;

@@ -95,8 +95,7 @@ none-shown c begins attempt refused first committed order number contested = eli
 
 pub returns-then-is_empty : goal.returns-then-is_empty
 returns-then-is_empty c =
-    let inv = c.loop-members.invariant in
-    record {
+    let inv = c.loop-members.invariant in record {
       keeps = inv.parts;
       counts = record { cycles = inv.cycles; rest = inv.rest };
       stays = inv.stays;
@@ -110,12 +109,11 @@ returns-then-is_empty c =
 
 pub returns-else-is_empty : goal.returns-else-is_empty
 returns-else-is_empty c =
-    let inv = c.loop-members.invariant in
-    record {
+    let inv = c.loop-members.invariant in record {
       keeps = inv.parts;
       counts = record { cycles = inv.cycles; rest = inv.rest };
       stays = tt;
-      ends = first_of (search rules, grind arith);
+      ends = search rules;
       settled = λ begins attempt refused first committed order number contested printed.
           told-stays c.args.seat c.args.self.now c.loop-members.self (tally_counts c.args.tally.now) (tally_counts c.loop-members.tally)
           c.cycle_from.ensures.sound inv.taken (inv.number ∙ ap (λ (who : _). who.number) c.sitter.ensures) inv.contests inv.waits

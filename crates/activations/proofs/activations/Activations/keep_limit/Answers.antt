@@ -10,8 +10,7 @@ returns-then-lines-most c =
     let over : nat_lt c.args.self.now.most_lines (lines_with c.args.self.now c.args.seat (wants_of c.args.touch.now)) ≡ true =
     grind (arith, nat_tests, most, c.if-lines-most.true, c.lines_with-lines.ensures) in
     let told : TurnEnd.Journal c.lines_with-lines.result c.self.inside.most_lines ≡ TurnEnd.Journal (lines_with c.args.self.now c.args.seat (wants_of c.args.touch.now)) c.args.self.now.most_lines =
-    λ i. TurnEnd.Journal (c.lines_with-lines.ensures i) (most i) in
-    record {
+    λ i. TurnEnd.Journal (c.lines_with-lines.ensures i) (most i) in record {
       kept = tt;
       journal = (told, grind (arith, nat_tests, over));
       back = c.roll_back.ensures.shape;

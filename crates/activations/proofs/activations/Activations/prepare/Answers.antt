@@ -1,40 +1,43 @@
-use Rattle.activations.proofs.Lemmas.{AreWanted, KeepsParts, keeps-pool, AreWithin, page_count, refl, Bool, List, ℕ, AreLetBut, WillTouch, IsMoved, pages_picked, picked-refused, taken-below, let-but, pages_refused, shut-touches, touch-on, TurnEnd, IsClean, Tally, Activity, HasBrokenOff, IsPrepared, Prepares, IsFetched, instruction_in, with_pool, wants_of, pages_wanted, HasEnded, HasBroken, tally_counts, asks_none, ◌+◌, Result, sym, ◌∙◌, ap, subst, keeps-left, keeps-broke, is-to-serve, prepare-broke, prepared-so, handed}
+use Rattle.activations.proofs.Lemmas.{AreWanted, KeepsParts, keeps-pool, AreWithin, page_count, refl, Bool, List, ℕ, AreLetBut, WillTouch, IsMoved, pages_picked, picked-refused, taken-below, let-but, pages_refused, shut-touches, touch-on, TurnEnd, IsClean, Tally, Activity, HasBrokenOff, IsPrepared, Prepares, IsFetched, instruction_in, with_pool, wants_of, pages_wanted, HasEnded, HasBroken, tally_counts, asks_none, ◌+◌, Result, sym, ◌∙◌, ap, subst, keeps-left, keeps-broke, is-to-serve, prepare-broke, prepared-so, handed, rules}
 use Rattle.activations.proofs.activations.Activations.prepare.Goals as goal
 
-pub returns-in_err-keep_limit-clause-keeps : goal.returns-in_err-keep_limit-clause-keeps
-returns-in_err-keep_limit-clause-keeps g c = record {
-  asks = asks_none g.W.Outside c.args.outside.now;
-  parts = keeps-left c.args.self.now c.keep_limit.new.self c.args.seat _ c.in_err-keep_limit.ensures.back;
+pub returns-in_err-keep_limit-clause-came : goal.returns-in_err-keep_limit-clause-came
+returns-in_err-keep_limit-clause-came g c = record {
+  keeps = record { asks = asks_none g.W.Outside c.args.outside.now; parts = keeps-left c.args.self.now c.keep_limit.new.self c.args.seat _ c.in_err-keep_limit.ensures.back };
+  on = search rules;
+  over = search rules;
+  no_limit = search rules;
+  step = λ committed order is follows.
+      let counts = tally_counts c.args.tally.now in
+      let to = is-to-serve c.args.self.now c.args.seat c.args.access (wants_of c.touch_of-touch.result) c.touch_of-touch.ensures.sound c.requires.can.taken c.requires.can.selected c.requires.shut
+      c.touch_of-touch.ensures.lines committed follows in
+      handed (λ (r : Result _ TurnEnd). Prepares r (instruction_in c.args.self.now c.args.seat committed order counts) c.keep_limit.new.self c.args.seat committed order counts)
+      c.from_residual.result c.in_err-keep_limit.field-0.0 c.from_residual.ensures.1 (c.in_err-keep_limit.ensures.over committed order counts to.0 to.1);
 }
 
-pub returns-in_err-keep_limit-clause-prepared : goal.returns-in_err-keep_limit-clause-prepared
-returns-in_err-keep_limit-clause-prepared g c committed order is follows =
-    let counts = tally_counts c.args.tally.now in
-    let to = is-to-serve c.args.self.now c.args.seat c.args.access (wants_of c.touch_of-touch.result) c.touch_of-touch.ensures.sound c.requires.can.taken c.requires.can.selected c.requires.shut
-    c.touch_of-touch.ensures.lines committed follows in
-    handed (λ (r : Result _ TurnEnd). Prepares r (instruction_in c.args.self.now c.args.seat committed order counts) c.keep_limit.new.self c.args.seat committed order counts)
-    c.from_residual.result c.in_err-keep_limit.field-0.0 c.from_residual.ensures.1 (c.in_err-keep_limit.ensures.over committed order counts to.0 to.1)
-
-pub returns-in_err-bring-clause-keeps : goal.returns-in_err-bring-clause-keeps
-returns-in_err-bring-clause-keeps g c =
-    let broke = c.in_err-bring.ensures.brings.broke in
-    record { asks = c.bring.ensures.asks; parts = subst (λ (x : Activity). KeepsParts x c.bring.new.self 0) c.in_ok-keep_limit.ensures.kept.0 (keeps-broke c.keep_limit.new.self c.bring.new.self c.args.seat broke.pool _ broke.shape) }
-
-pub returns-in_err-bring-clause-prepared : goal.returns-in_err-bring-clause-prepared
-returns-in_err-bring-clause-prepared g c committed order is follows =
-    let a = c.args.self.now in let counts = tally_counts c.args.tally.now in
-    let begins = instruction_in a c.args.seat committed order counts in
-    let to = is-to-serve a c.args.seat c.args.access (wants_of c.touch_of-touch.result) c.touch_of-touch.ensures.sound c.requires.can.taken c.requires.can.selected c.requires.shut
-    c.touch_of-touch.ensures.lines committed follows in
-    let broke =
-    prepare-broke a c.args.seat committed order counts c.touch_of-touch.result to.0 to.1 c.touch_of-touch.ensures.wanted c.in_ok-keep_limit.ensures.kept.1
-    g.W.Outside c.args.store.now c.args.outside.now c.bring.new.self c.bring.new.tally.pages is
-    (subst (λ (a : Activity). HasBrokenOff g.W.Outside c.args.store.now c.args.outside.now a c.args.seat (pages_wanted (wants_of c.touch_of-touch.result)) c.args.tally.now.pages c.bring.new.self c.bring.new.tally.pages)
-    c.in_ok-keep_limit.ensures.kept.0 c.in_err-bring.ensures.brings.broke) in
-    handed (λ (r : Result _ TurnEnd). Prepares r begins c.bring.new.self c.args.seat committed order (tally_counts c.bring.new.tally))
-    c.from_residual-in_err-bring.result c.in_err-bring.field-0.0 c.from_residual-in_err-bring.ensures.1
-    (subst (λ (how : TurnEnd). HasEnded how begins c.bring.new.self committed order (tally_counts c.bring.new.tally)) (sym c.in_err-bring.ensures.ends.is)
-    (subst (λ (t : Tally). HasBroken begins c.bring.new.self committed order (tally_counts t)) (sym c.bring.ensures.counts.rest) broke))
+pub returns-in_err-bring-clause-came : goal.returns-in_err-bring-clause-came
+returns-in_err-bring-clause-came g c = record {
+  keeps =
+      let broke = c.in_err-bring.ensures.brings.broke in
+      record { asks = c.bring.ensures.asks; parts = subst (λ (x : Activity). KeepsParts x c.bring.new.self 0) c.in_ok-keep_limit.ensures.kept.0 (keeps-broke c.keep_limit.new.self c.bring.new.self c.args.seat broke.pool _ broke.shape) };
+  on = search rules;
+  over = search rules;
+  no_limit = search rules;
+  step = λ committed order is follows.
+      let a = c.args.self.now in let counts = tally_counts c.args.tally.now in
+      let begins = instruction_in a c.args.seat committed order counts in
+      let to = is-to-serve a c.args.seat c.args.access (wants_of c.touch_of-touch.result) c.touch_of-touch.ensures.sound c.requires.can.taken c.requires.can.selected c.requires.shut
+      c.touch_of-touch.ensures.lines committed follows in
+      let broke =
+      prepare-broke a c.args.seat committed order counts c.touch_of-touch.result to.0 to.1 c.touch_of-touch.ensures.wanted c.in_ok-keep_limit.ensures.kept.1
+      g.W.Outside c.args.store.now c.args.outside.now c.bring.new.self c.bring.new.tally.pages is
+      (subst (λ (a : Activity). HasBrokenOff g.W.Outside c.args.store.now c.args.outside.now a c.args.seat (pages_wanted (wants_of c.touch_of-touch.result)) c.args.tally.now.pages c.bring.new.self c.bring.new.tally.pages)
+      c.in_ok-keep_limit.ensures.kept.0 c.in_err-bring.ensures.brings.broke) in
+      handed (λ (r : Result _ TurnEnd). Prepares r begins c.bring.new.self c.args.seat committed order (tally_counts c.bring.new.tally))
+      c.from_residual-in_err-bring.result c.in_err-bring.field-0.0 c.from_residual-in_err-bring.ensures.1
+      (subst (λ (how : TurnEnd). HasEnded how begins c.bring.new.self committed order (tally_counts c.bring.new.tally)) (sym c.in_err-bring.ensures.ends.is)
+      (subst (λ (t : Tally). HasBroken begins c.bring.new.self committed order (tally_counts t)) (sym c.bring.ensures.counts.rest) broke));
+}
 
 pub returns-clause-may : goal.returns-clause-may
 returns-clause-may g c =
@@ -52,27 +55,29 @@ returns-clause-may g c =
           (let-but new.reach.entries (c.args.seat + 1) (pages_refused new.reach.entries (c.args.seat + 1) wants) wants (λ page inside. inside)));
     }
 
-pub returns-clause-prepared : goal.returns-clause-prepared
-returns-clause-prepared g c committed order is follows =
-    let a = c.args.self.now in let new = c.bring.new.self in
-    let counts = tally_counts c.args.tally.now in let begins = instruction_in a c.args.seat committed order counts in
-    let to = is-to-serve a c.args.seat c.args.access (wants_of c.touch_of-touch.result) c.touch_of-touch.ensures.sound c.requires.can.taken c.requires.can.selected c.requires.shut
-    c.touch_of-touch.ensures.lines committed follows in
-    let same = c.in_ok-keep_limit.ensures.kept.0 in
-    let fetched : IsFetched a committed order (pages_wanted (wants_of c.touch_of-touch.result)) c.args.tally.now.pages new.reach.pool c.bring.new.tally.pages =
-    subst (λ (x : Activity). IsClean x.reach.directory x.reach.pool committed → IsFetched x committed order (pages_wanted (wants_of c.touch_of-touch.result)) c.args.tally.now.pages new.reach.pool c.bring.new.tally.pages)
-    same (c.in_ok-bring.ensures.brings.fetched.fetched committed order is) follows.kept.clean in subst
-    (λ (t : Tally). IsPrepared begins new c.args.seat c.touch_of-touch.result c.refused-refused.result committed order (record (tally_counts t) { locks = t.locks + (c.from.result + c.from-2.result) }))
-    (sym c.bring.ensures.counts.rest)
-    (prepared-so a c.args.seat committed order counts c.touch_of-touch.result to.0 to.1 c.touch_of-touch.ensures.wanted c.in_ok-keep_limit.ensures.kept.1 new.reach.pool c.bring.new.tally.pages
-    fetched new c.refused-refused.result c.from.result c.from-2.result (c.in_ok-bring.ensures.shape ∙ ap (λ (x : Activity). with_pool x new.reach.pool) same) c.refused-refused.ensures
-    c.from.ensures c.from-2.ensures)
-
-pub returns-clause-keeps : goal.returns-clause-keeps
-returns-clause-keeps g c =
-    let came = c.in_ok-bring.ensures.shape ∙ ap (λ (x : Activity). with_pool x c.bring.new.self.reach.pool) c.in_ok-keep_limit.ensures.kept.0 in
-    let a = c.args.self.now in
-    record { asks = c.bring.ensures.asks; parts = subst (λ (x : Activity). KeepsParts a x 0) (sym came) (keeps-pool a c.bring.new.self.reach.pool) }
+pub returns-clause-came : goal.returns-clause-came
+returns-clause-came g c = record {
+  keeps =
+      let came = c.in_ok-bring.ensures.shape ∙ ap (λ (x : Activity). with_pool x c.bring.new.self.reach.pool) c.in_ok-keep_limit.ensures.kept.0 in
+      record { asks = c.bring.ensures.asks; parts = subst (λ (x : Activity). KeepsParts c.args.self.now x 0) (sym came) (keeps-pool c.args.self.now c.bring.new.self.reach.pool) };
+  on = search rules;
+  over = tt;
+  no_limit = tt;
+  step = λ committed order is follows.
+      let a = c.args.self.now in let new = c.bring.new.self in
+      let counts = tally_counts c.args.tally.now in let begins = instruction_in a c.args.seat committed order counts in
+      let to = is-to-serve a c.args.seat c.args.access (wants_of c.touch_of-touch.result) c.touch_of-touch.ensures.sound c.requires.can.taken c.requires.can.selected c.requires.shut
+      c.touch_of-touch.ensures.lines committed follows in
+      let same = c.in_ok-keep_limit.ensures.kept.0 in
+      let fetched : IsFetched a committed order (pages_wanted (wants_of c.touch_of-touch.result)) c.args.tally.now.pages new.reach.pool c.bring.new.tally.pages =
+      subst (λ (x : Activity). IsClean x.reach.directory x.reach.pool committed → IsFetched x committed order (pages_wanted (wants_of c.touch_of-touch.result)) c.args.tally.now.pages new.reach.pool c.bring.new.tally.pages)
+      same (c.in_ok-bring.ensures.brings.fetched.fetched committed order is) follows.kept.clean in subst
+      (λ (t : Tally). IsPrepared begins new c.args.seat c.touch_of-touch.result c.refused-refused.result committed order (record (tally_counts t) { locks = t.locks + (c.from.result + c.from-2.result) }))
+      (sym c.bring.ensures.counts.rest)
+      (prepared-so a c.args.seat committed order counts c.touch_of-touch.result to.0 to.1 c.touch_of-touch.ensures.wanted c.in_ok-keep_limit.ensures.kept.1 new.reach.pool c.bring.new.tally.pages
+      fetched new c.refused-refused.result c.from.result c.from-2.result (c.in_ok-bring.ensures.shape ∙ ap (λ (x : Activity). with_pool x new.reach.pool) same) c.refused-refused.ensures
+      c.from.ensures c.from-2.ensures);
+}
 
 pub refused-refused-requires-clause-pages : goal.refused-refused-requires-clause-pages
 refused-refused-requires-clause-pages g c =

@@ -25,7 +25,7 @@ loop-left-preserved g c =
     let first = c.select.new.self in let old = c.loop-left.self in
     let back = c.come_back.new.self in let mid = c.instruct.new.self in
     let new = c.go_far-ran.new.self in let seat = c.args.seat in let inv = c.loop-left.invariant in
-    let came = c.in_ok-shut_still.ensures.on.stays in let stays = c.in_ok-instruct.ensures.on.stays in
+    let came = c.in_ok-shut_still.ensures.on.stays in let stays = c.in_ok-instruct.ensures.came.on.stays in
     let some = c.go_far-ran.ensures.some in let few = c.go_far-ran.ensures.few in let left = c.loop-left-test.true in
     let total = inv.total in let more = c.come_back.ensures.counts.few in let ran = c.instruct.ensures.counts.tally.ran in
     let pages = c.instruct.ensures.counts.tally.pages in let locks = c.instruct.ensures.counts.tally.locks in
@@ -36,9 +36,9 @@ loop-left-preserved g c =
       selected = c.go_far-ran.ensures.stays.selected (stays.selected (came.selected inv.selected));
       shut = c.go_far-ran.ensures.shut;
       asks = asks_on g.W.Outside g.met.W.Outside.fewer_later c.args.outside.now c.come_back.new.outside c.instruct.new.outside
-          (asks_on g.W.Outside g.met.W.Outside.fewer_later c.args.outside.now c.loop-left.outside c.come_back.new.outside inv.asks c.come_back.ensures.keeps.asks) c.instruct.ensures.keeps.asks;
-      calm = c.in_ok-instruct.ensures.on.calm ∙ c.in_ok-shut_still.ensures.on.calm ∙ inv.calm;
-      parts = keeps-far first old mid new c.args.limit c.loop-left.left c.go_far-ran.result.0 (omega (arith, few, left)) (omega (arith, total)) inv.parts (keeps-two old back mid c.come_back.ensures.keeps.parts c.instruct.ensures.keeps.parts) c.go_far-ran.ensures.parts;
+          (asks_on g.W.Outside g.met.W.Outside.fewer_later c.args.outside.now c.loop-left.outside c.come_back.new.outside inv.asks c.come_back.ensures.keeps.asks) c.instruct.ensures.came.keeps.asks;
+      calm = c.in_ok-instruct.ensures.came.on.calm ∙ c.in_ok-shut_still.ensures.on.calm ∙ inv.calm;
+      parts = keeps-far first old mid new c.args.limit c.loop-left.left c.go_far-ran.result.0 (omega (arith, few, left)) (omega (arith, total)) inv.parts (keeps-two old back mid c.come_back.ensures.keeps.parts c.instruct.ensures.came.keeps.parts) c.go_far-ran.ensures.parts;
       cycles = let cycles = c.instruct.ensures.counts.cycles in let taken = ap (λ (seats : List ℕ). length seats) c.go_far-ran.ensures.taken in let same = ap (λ (tally : Tally). array_vec_len tally.cycles) told in omega (arith, cycles, taken, same);
       total = omega (arith, total, ap (λ (tally : Tally). tally.ran) c.come_back.ensures.counts.rest, ran, ran_now, few, left);
       pages = let before = inv.pages in omega (arith, before, more, pages, pages_now, some, few, left);
@@ -48,7 +48,7 @@ loop-left-preserved g c =
           let here = store-on g.W.Outside g.met.W.Outside.fewer_later c.args.store.now c.args.outside.now c.loop-left.outside committed inv.asks store in
           let turning = c.in_ok-shut_still.ensures.turns begins c.loop-left.left committed order left here (inv.turns committed order store follows) in
           let here_still = store-on g.W.Outside g.met.W.Outside.fewer_later c.args.store.now c.loop-left.outside c.come_back.new.outside committed c.come_back.ensures.keeps.asks here in
-          let goes = subst (λ (went : Went). IsStep (Ok went) (instruction_in back seat committed order (tally_counts c.come_back.new.tally)) mid seat committed order (tally_counts c.instruct.new.tally)) c.in-On.is (c.in_ok-instruct.ensures.step committed order here_still turning.follows) in
+          let goes = subst (λ (went : Went). IsStep (Ok went) (instruction_in back seat committed order (tally_counts c.come_back.new.tally)) mid seat committed order (tally_counts c.instruct.new.tally)) c.in-On.is (c.in_ok-instruct.ensures.came.step committed order here_still turning.follows) in
           let on = turn-goes begins back seat c.loop-left.left committed order (tally_counts c.come_back.new.tally) c.sound.ensures.sound came.taken left turning mid (tally_counts c.instruct.new.tally) c.sound-in-On.ensures.sound stays c.instruct.ensures.counts.tally.pages_before goes in
           subst (λ (counts : Counts). IsTurning begins new seat (c.loop-left.left - c.go_far-ran.result.0) committed order counts) (sym (ap tally_counts told))
           (c.go_far-ran.ensures.gone begins committed order (tally_counts c.instruct.new.tally) (c.go_far-ran.result.0 - 1) (c.loop-left.left - c.go_far-ran.result.0) (omega (arith, some))
@@ -79,7 +79,7 @@ returns-in_err-shut_still-clause-turned g c committed order store follows =
 pub returns-in_err-instruct-clause-keeps : goal.returns-in_err-instruct-clause-keeps
 returns-in_err-instruct-clause-keeps g c =
     keeps-ran g.W.Outside g.met.W.Outside.fewer_later c.args.self.now c.select.new.self c.loop-left.self c.come_back.new.self c.instruct.new.self c.args.seat c.args.limit c.loop-left.left c.args.outside.now c.loop-left.outside c.come_back.new.outside c.instruct.new.outside
-    c.select.ensures.shape c.loop-left.invariant.asks c.loop-left.invariant.parts c.come_back.ensures.keeps c.instruct.ensures.keeps
+    c.select.ensures.shape c.loop-left.invariant.asks c.loop-left.invariant.parts c.come_back.ensures.keeps c.instruct.ensures.came.keeps
 
 pub returns-in_err-instruct-clause-turned : goal.returns-in_err-instruct-clause-turned
 returns-in_err-instruct-clause-turned g c committed order store follows =
@@ -90,12 +90,12 @@ returns-in_err-instruct-clause-turned g c committed order store follows =
     subst (λ (x : Activity). AreTurns c.from_residual-in_err-instruct.result (turn_in x c.args.seat c.args.limit committed order (tally_counts c.args.tally.now)) c.instruct.new.self c.args.seat committed order (tally_counts c.instruct.new.tally)) c.select.ensures.shape
     (handed (λ (r : Result _ TurnEnd). AreTurns r begins c.instruct.new.self c.args.seat committed order (tally_counts c.instruct.new.tally)) c.from_residual-in_err-instruct.result c.in_err-instruct.field-0.0 c.from_residual-in_err-instruct.ensures.1
     (turn-ends begins c.come_back.new.self c.args.seat c.loop-left.left committed order (tally_counts c.come_back.new.tally) c.sound.ensures.sound c.in_ok-shut_still.ensures.on.stays.taken c.loop-left-test.true so.1 g.W.Outside c.come_back.new.outside c.instruct.new.outside c.come_back.new.tally c.instruct.new.tally
-    c.in_err-instruct.field-0.0 c.instruct.new.self refl c.instruct.ensures.counts.tally.pages_before c.in_err-instruct.ensures.over.disk (c.in_err-instruct.ensures.step committed order so.0 so.1.follows)))
+    c.in_err-instruct.field-0.0 c.instruct.new.self refl c.instruct.ensures.counts.tally.pages_before c.in_err-instruct.ensures.came.over.disk (c.in_err-instruct.ensures.came.step committed order so.0 so.1.follows)))
 
 pub returns-in-AtCommit-clause-keeps : goal.returns-in-AtCommit-clause-keeps
 returns-in-AtCommit-clause-keeps g c =
     keeps-ran g.W.Outside g.met.W.Outside.fewer_later c.args.self.now c.select.new.self c.loop-left.self c.come_back.new.self c.instruct.new.self c.args.seat c.args.limit c.loop-left.left c.args.outside.now c.loop-left.outside c.come_back.new.outside c.instruct.new.outside
-    c.select.ensures.shape c.loop-left.invariant.asks c.loop-left.invariant.parts c.come_back.ensures.keeps c.instruct.ensures.keeps
+    c.select.ensures.shape c.loop-left.invariant.asks c.loop-left.invariant.parts c.come_back.ensures.keeps c.instruct.ensures.came.keeps
 
 pub returns-in-AtCommit-clause-ran : goal.returns-in-AtCommit-clause-ran
 returns-in-AtCommit-clause-ran g c =
@@ -107,13 +107,13 @@ returns-in-AtCommit-clause-turned g c committed order store follows =
     let so = so-far g.W.Outside g.met.W.Outside.fewer_later c.args.store.now c.args.outside.now c.loop-left.outside c.come_back.new.outside committed _ _ c.loop-left.invariant.asks c.come_back.ensures.keeps.asks store
     (c.in_ok-shut_still.ensures.turns begins c.loop-left.left committed order c.loop-left-test.true)
     (c.loop-left.invariant.turns committed order store (subst (λ (x : Activity). KeepsDesk x committed) (sym c.select.ensures.shape) (follows-selected c.args.self.now c.args.seat committed follows))) in
-    let at = subst (λ (went : Went). IsStep (Ok went) (instruction_in c.come_back.new.self c.args.seat committed order (tally_counts c.come_back.new.tally)) c.instruct.new.self c.args.seat committed order (tally_counts c.instruct.new.tally)) c.in-AtCommit.is (c.in_ok-instruct.ensures.step committed order so.0 so.1.follows) in
+    let at = subst (λ (went : Went). IsStep (Ok went) (instruction_in c.come_back.new.self c.args.seat committed order (tally_counts c.come_back.new.tally)) c.instruct.new.self c.args.seat committed order (tally_counts c.instruct.new.tally)) c.in-AtCommit.is (c.in_ok-instruct.ensures.came.step committed order so.0 so.1.follows) in
     subst (λ (x : Activity). IsAtCommit (turn_in x c.args.seat c.args.limit committed order (tally_counts c.args.tally.now)) c.instruct.new.self c.args.seat committed order (tally_counts c.instruct.new.tally)) c.select.ensures.shape
     (turn-commits begins c.come_back.new.self c.args.seat c.loop-left.left committed order (tally_counts c.come_back.new.tally) c.sound.ensures.sound c.in_ok-shut_still.ensures.on.stays.taken c.loop-left-test.true so.1 c.instruct.new.self (tally_counts c.instruct.new.tally) c.instruct.ensures.counts.tally.pages_before at)
 
 pub go_far-ran-requires-clause-rows : goal.go_far-ran-requires-clause-rows
 go_far-ran-requires-clause-rows g c seat below =
-    let kept = keeps-within c.args.self.now _ c.loop-left.self _ _ c.args.seat c.args.limit c.loop-left.left c.select.ensures.shape c.loop-left.invariant.parts c.come_back.ensures.keeps.parts c.instruct.ensures.keeps.parts in
+    let kept = keeps-within c.args.self.now _ c.loop-left.self _ _ c.args.seat c.args.limit c.loop-left.left c.select.ensures.shape c.loop-left.invariant.parts c.come_back.ensures.keeps.parts c.instruct.ensures.came.keeps.parts in
     let here = kept.rows (2 ^ 63) c.requires.rows seat below in omega (arith, here, c.requires.limit)
 
 pub returns-clause-keeps : goal.returns-clause-keeps
@@ -133,8 +133,7 @@ returns-clause-turned g c committed order store follows printed =
 
 pub come_back-requires-clause-can : goal.come_back-requires-clause-can
 come_back-requires-clause-can g c =
-    let inv = c.loop-left.invariant in
-    record {
+    let inv = c.loop-left.invariant in record {
       fetch = record {
         directory = c.requires.can.directory ∙ sym (inv.parts.directory ∙ ap (λ (x : Activity). x.reach.directory) c.select.ensures.shape);
         usable = c.requires.can.usable;
