@@ -131,7 +131,7 @@ pub use Rattle.activations.specs.Activity.{Activity, first_live, authority_at, f
 pub use Rattle.activations.specs.Kept.{CameTo, IsSelected, IsShut, IsStopped, Strode, TookEffect, WasAttempted, WillTouch, attempted, plain_in, printed_after, KeepsParts, StandsStill, StaysSeated, RunsAt, StrodeTo, with_live, standing}
 pub use Rattle.activations.specs.Begins.{Begins, BeginsSo, HasNobody, IsBegin, begun_in, given, idle, started, begins}
 pub use Rattle.activations.specs.Steps.{HasSettled, HasUndone, IsDeserted, IsRestarted, WereRolled, reprinted, AreAsCommitted, AreWritten, Commits, GoesOn, HasExecuted, IsMoved, RollsBack, Strides, WereSettled, WereUndone, counted, executed, is_of, rolled, vacated, with_pool, wrote, IsRolledBack, IsCommitted, IsUndone}
-pub use Rattle.activations.specs.Stages.{HasBrokenOff, IsBrokenOff, IsIn, IsStoreOf, IsUnread, KeepsPool, EndsByDisk, EndsContest, EndsRows, Fetches, HasFetched, KeepsAll, EndsServing, IsCheckCode, IsNoLimit, ComesOut, Instructs}
+pub use Rattle.activations.specs.Stages.{HasBrokenOff, IsBrokenOff, IsIn, IsStoreOf, IsUnread, KeepsPool, EndsByDisk, EndsContest, EndsRows, Fetches, HasFetched, KeepsAll, EndsServing, IsCheckCode, IsNoLimit, ComesOut, Instructs, CanFetch}
 pub use Rattle.activations.specs.Follows.{AreOfPages, KeepsDesk, IsIdentified, IsKept, IsSetUp, IsSound, HasFrames}
 pub use Rattle.activations.specs.Turning.{GoesUncounted, IsAsked, IsEndOfRows, IsInstruction, IsPrepared, IsServed, Prepares, Serves, Contests, HasBroken, HasEnded, tally_counts, FromContest, AreTurns, ComesBack, IsAtCommit, IsStep, IsTurning, MayBeShut, commit_call, selected_in, turn_in}
 pub use Rattle.activations.specs.Recorded.{HasWritten, IsRecordOf, LeavesCommitted, line_told, recorded, with_lines, written_of}

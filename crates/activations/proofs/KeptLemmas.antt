@@ -1,5 +1,5 @@
 -- What stays while those that run are served: of a rollback of another, and one after another.
-use Rattle.activations.proofs.Common.{◌≡◌, refl, ℕ, ◌+◌, ◌≤◌, ◌==◌, not, if◌then◌else◌, Bool, true, false, List, [], ◌∷◌, filter, length, None, replicate, Result, Ok, Err, OnOk, arith, ap, sym, ◌∙◌, subst, has, has-filter, ArrayVec, Cycle, Pool, Tally, Activity, IsSelected, TookEffect, HasUndone, KeepsParts, StandsStill, StaysSeated, Want, Authority, cleared_entry, unowned, map, slice_index_or, slice_range, zero, suc, ◌*◌, locked, rolled, with_pool, Ghosts, FewerLater, asks_on, nat_tests, KeepsAll, IfErr, IsErrAnd, Rose, TurnEnd, EndsRows, EndsByDisk, ComesOut, Instructs, KeptStore, Word, Turning, Counts}
+use Rattle.activations.proofs.Common.{◌≡◌, refl, ℕ, ◌+◌, ◌≤◌, ◌==◌, not, if◌then◌else◌, Bool, true, false, List, [], ◌∷◌, filter, length, None, replicate, Result, Ok, Err, OnOk, arith, ap, sym, ◌∙◌, subst, has, has-filter, ArrayVec, Cycle, Pool, Tally, Activity, IsSelected, TookEffect, HasUndone, KeepsParts, StandsStill, StaysSeated, Want, Authority, cleared_entry, unowned, map, slice_index_or, slice_range, zero, suc, ◌*◌, locked, rolled, with_pool, Ghosts, FewerLater, asks_on, nat_tests, KeepsAll, IfErr, IsErrAnd, Rose, TurnEnd, EndsRows, EndsByDisk, ComesOut, Instructs, KeptStore, Word, Turning, Counts, CanFetch, Layout, OnlyAsks, asks_only, total}
 
 -- none more are left of those but one
 pub no-more : (taken : List ℕ) (seat : ℕ) → length (filter (λ other. not (other == seat)) taken) ≤ length taken
@@ -139,6 +139,11 @@ keeps-all-on G fewer_later a b c u v w first second =
 
 pub keeps-all-then : {W : Type 0} (G : Ghosts W) (a b c : Activity) (u v : W) → KeepsAll G a b 0 u v → KeepsParts b c 0 → KeepsAll G a c 0 u v
 keeps-all-then G a b c u v first second = record { asks = first.asks; parts = keeps-two a b c first.parts second }
+
+-- pages may be fetched still, after calls that only ask
+pub fetch-on : {W : Type 0} {G : Ghosts W} {layout other : Layout} {store : KeptStore} {outside later : W} → CanFetch G layout store outside → other ≡ layout → OnlyAsks G outside later → CanFetch G other store later
+fetch-on {G = G} {store = store} {outside = outside} {later = later} can same asks =
+    record { directory = can.directory ∙ sym same; usable = can.usable; room = (asks_only G outside later asks).longer (total store.header) can.room }
 
 -- what is to be said of an end that is handed on
 pub handed : {T : Type 0} (P : Result T TurnEnd → Type 0) (result : Result T TurnEnd) (end : TurnEnd) → IsErrAnd result (λ told. told ≡ end) → P (Err end) → P result

@@ -4,7 +4,7 @@ pub use Rattle.activations.proofs.Common.{activity_of, Inside, Access, Activity,
 pub use Rattle.activations.proofs.EndingLemmas.{checked, sound-pool, RolledSo, commits-left, deserted, restarted-left, rolled-none, rolled-past, rolled-step, rolls-left, shape-left, sound-after, sound-idle, desk-idle, follows-idle}
 pub use Rattle.activations.proofs.ExecuteLemmas.{not-printed, runs-there, keeps-counted, took-either, took-served, took-stays, came-still, sound-counted, attempted-again, attempted-at, came-either, in-place, none-yet, room, runs-at, strode-halted, strode-one, row-goes, at-commit}
 pub use Rattle.activations.proofs.GrantLemmas.{first_within, granted-same, set-sound, one-sound, granted-owner, fine-owner, one_within, picked-refused, second_within, taken-sound, within-whole}
-pub use Rattle.activations.proofs.KeptLemmas.{keeps-all-on, keeps-all-then, keeps-broke, keeps-checked, keeps-itself, keeps-left, keeps-on, keeps-pool, keeps-rolled, keeps-took, keeps-two, ok-both, ok-then, stays-itself, stays-on, still-itself, still-on, still-rolled, tally-on, ended-by-disk, handed, some-holders, ended-so}
+pub use Rattle.activations.proofs.KeptLemmas.{keeps-all-on, keeps-all-then, keeps-broke, keeps-checked, keeps-itself, keeps-left, keeps-on, keeps-pool, keeps-rolled, keeps-took, keeps-two, ok-both, ok-then, stays-itself, stays-on, still-itself, still-on, still-rolled, tally-on, ended-by-disk, handed, some-holders, ended-so, fetch-on}
 pub use Rattle.activations.proofs.OpenLemmas.{check-named, got-open, got-touch, let-on, let-but, shut-touches, takes-effect, touch-on}
 pub use Rattle.activations.proofs.StartLemmas.{broken-off, is-to-serve, prepare-broke, prepared-so, over-limit, under, turn-back}
 pub use Rattle.activations.proofs.RecordLemmas.{Adds, adds-all, adds-next, adds-none, adds-one, next-above, next-line, next-room, pages-below, before-page, room-left, written-more}

@@ -263,6 +263,15 @@ Turns G store outside seat limit old new before after result =
     (committed : List ℕ) (order : List (ℕ × ℕ)) → IsStoreOf G store outside committed → KeepsDesk old committed
     → AreTurns result (turn_in old seat limit committed order (tally_counts before)) new seat committed order (tally_counts after)
 
+-- The rows of a turn: what they keep, how many ran, that they go on to the commit call or ended for a cause, and what they come to.
+pub record RunsTurn {U W : Type 0} (G : Ghosts W) (store : KeptStore) (seat limit : ℕ) (old new : Activity) (outside later : W) (before after : Tally)
+    (result : Result U TurnEnd) : Type 0 where
+  pub keeps : KeepsAll G old new limit outside later
+  pub ran : RanWithin limit after.ran result
+  pub on : OnOk result (StaysCalm G old new seat outside later)
+  pub over : IfErr result (EndsRows G (number_in old.seating seat) new outside later before after)
+  pub turned : Turns G store outside seat limit old new before after result
+
 -- a turn that comes to some rows more comes to as many still, or to its end
 abbrev pub KeepsTurning : {U W : Type 0} → Ghosts W → KeptStore → W → (seat : ℕ) → (old new : Activity) → (before after : Tally) → Result U TurnEnd → Type 0
 KeepsTurning G store outside seat old new before after result =

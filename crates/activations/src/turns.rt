@@ -1,6 +1,6 @@
 // The rows of a turn, one after another.
 ghost use Rattle.std.specs.Prelude.{◌≡◌, ◌+◌, ◌<◌, ◌≤◌, ◌^◌, true, length, IfErr, IfOk, OnOk};
-ghost use Rattle.activations.specs.Below.{array_vec_len, has, number_in};
+ghost use Rattle.activations.specs.Below.{array_vec_len, has};
 
 use super::activations::Activations;
 use super::instructions::Went;
@@ -11,7 +11,7 @@ use romp_cpu::Access;
 use store::Durable;
 
 impl Activations {
-    ghost use Rattle.activations.specs.Words.{AreRowsWithin, CanFetch, CanServe, CountsPages, EndsByDisk, EndsRows, GoesFar, IsSelected, KeepsAll, KeepsParts, KeepsTurning, MayBeShut, RanWithin, selected_in, StaysCalm, StaysSeated, Turns};
+    ghost use Rattle.activations.specs.Words.{AreRowsWithin, CanFetch, CanServe, CountsPages, EndsByDisk, GoesFar, IsSelected, KeepsAll, KeepsParts, KeepsTurning, MayBeShut, RunsTurn, selected_in, StaysCalm, StaysSeated};
 
     /// The rows of a turn of who sits in a seat, at most so many, up to his commit call. Nothing was counted before.
     ///
@@ -32,11 +32,7 @@ impl Activations {
         requires rows { AreRowsWithin self.old (2 ^ 63) }
         requires cycles { array_vec_len tally.old.cycles + length self.old.seating.taken ≤ 16 }
         requires tally { tally.old.ran + tally.old.pages + tally.old.locks ≡ 0 }
-        ensures keeps { KeepsAll W.Outside self.old self.new limit outside.old outside.new }
-        ensures ran { RanWithin limit tally.new.ran result }
-        ensures on { OnOk result (StaysCalm W.Outside self.old self.new seat outside.old outside.new) }
-        ensures over { IfErr result (EndsRows W.Outside (number_in self.old.seating seat) self.new outside.old outside.new tally.old tally.new) }
-        ensures turned { Turns W.Outside store.now outside.old seat limit self.old self.new tally.old tally.new result }
+        ensures { RunsTurn W.Outside store.now seat limit self.old self.new outside.old outside.new tally.old tally.new result }
     {
         self.select(seat);
         let mut left = limit;

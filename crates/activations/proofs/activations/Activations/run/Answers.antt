@@ -1,4 +1,4 @@
-use Rattle.activations.proofs.Lemmas.{number_in, has, asks_none, asks_on, Counts, Limit, TurnEnd, array_vec_len, Tally, Activity, KeepsDesk, KeepsParts, counted, ComesToEnd, instruction_in, tally_counts, IsStep, IsTurning, IsAtCommit, AreTurns, turn_in, ◌≡◌, ◌+◌, ◌-◌, ◌^◌, ℕ, List, true, length, Result, Ok, refl, ap, arith, sym, ◌∙◌, subst, total, asks_only, store-on, keeps-itself, keeps-two, stays-itself, stays-on, handed, ended-by-disk, follows-selected, keeps-far, keeps-ran, keeps-within, so-far, turn-begins, turn-goes, turn-commits, turn-ends, turn-limit}
+use Rattle.activations.proofs.Lemmas.{rules, number_in, has, asks_none, asks_on, Counts, Limit, TurnEnd, array_vec_len, Tally, Activity, KeepsDesk, KeepsParts, counted, ComesToEnd, instruction_in, tally_counts, IsStep, IsTurning, IsAtCommit, AreTurns, turn_in, ◌≡◌, ◌+◌, ◌-◌, ◌^◌, ℕ, List, true, length, Result, Ok, refl, ap, arith, sym, ◌∙◌, subst, fetch-on, store-on, keeps-itself, keeps-two, stays-itself, stays-on, handed, ended-by-disk, follows-selected, keeps-far, keeps-ran, keeps-within, so-far, turn-begins, turn-goes, turn-commits, turn-ends, turn-limit}
 use Rattle.activations.specs.declared.instructions.Went.{Went}
 use Rattle.activations.proofs.activations.Activations.run.Goals as goal
 
@@ -55,105 +55,95 @@ loop-left-preserved g c =
           (subst (λ (rows : ℕ). IsTurning begins (counted mid seat 1) seat rows committed order (record (tally_counts c.instruct.new.tally) { ran = c.instruct.new.tally.ran + 1 })) (omega (arith, some, few, left)) on));
     }
 
-pub returns-in_err-shut_still-clause-keeps : goal.returns-in_err-shut_still-clause-keeps
-returns-in_err-shut_still-clause-keeps g c =
-    keeps-ran g.W.Outside g.met.W.Outside.fewer_later c.args.self.now c.select.new.self c.loop-left.self c.come_back.new.self c.come_back.new.self c.args.seat c.args.limit c.loop-left.left c.args.outside.now c.loop-left.outside c.come_back.new.outside c.come_back.new.outside
-    c.select.ensures.shape c.loop-left.invariant.asks c.loop-left.invariant.parts c.come_back.ensures.keeps
-    (record { asks = asks_none g.W.Outside c.come_back.new.outside; parts = keeps-itself c.come_back.new.self })
+pub returns-in_err-shut_still : goal.returns-in_err-shut_still
+returns-in_err-shut_still g c = record {
+  keeps = keeps-ran g.W.Outside g.met.W.Outside.fewer_later c.args.self.now c.select.new.self c.loop-left.self c.come_back.new.self c.come_back.new.self c.args.seat c.args.limit c.loop-left.left c.args.outside.now c.loop-left.outside c.come_back.new.outside c.come_back.new.outside
+      c.select.ensures.shape c.loop-left.invariant.asks c.loop-left.invariant.parts c.come_back.ensures.keeps
+      (record { asks = asks_none g.W.Outside c.come_back.new.outside; parts = keeps-itself c.come_back.new.self });
+  ran = search rules;
+  on = search rules;
+  over = ended-by-disk g.W.Outside (number_in c.args.self.now.seating c.args.seat) c.come_back.new.self c.args.outside.now c.loop-left.outside c.come_back.new.outside c.args.tally.now c.loop-left.tally c.come_back.new.tally
+      c.from_residual.result c.in_err-shut_still.field-0.0 c.from_residual.ensures.1 c.loop-left.invariant.calm (omega (arith, c.requires.tally)) c.in_err-shut_still.ensures.ends;
+  turned = λ committed order store follows.
+      let inv = c.loop-left.invariant in
+      let begins = turn_in c.select.new.self c.args.seat c.args.limit committed order (tally_counts c.args.tally.now) in
+      let turning = inv.turns committed order store (subst (λ (x : Activity). KeepsDesk x committed) (sym c.select.ensures.shape) (follows-selected c.args.self.now c.args.seat committed follows)) in
+      let here = store-on g.W.Outside g.met.W.Outside.fewer_later c.args.store.now c.args.outside.now c.loop-left.outside committed inv.asks store in
+      subst (λ (x : Activity). AreTurns c.from_residual.result (turn_in x c.args.seat c.args.limit committed order (tally_counts c.args.tally.now)) c.come_back.new.self c.args.seat committed order (tally_counts c.come_back.new.tally)) c.select.ensures.shape
+      (handed (λ (r : Result _ TurnEnd). AreTurns r begins c.come_back.new.self c.args.seat committed order (tally_counts c.come_back.new.tally)) c.from_residual.result c.in_err-shut_still.field-0.0 c.from_residual.ensures.1
+      (c.in_err-shut_still.ensures.turns begins c.loop-left.left committed order c.loop-left-test.true here turning));
+}
 
-pub returns-in_err-shut_still-clause-over : goal.returns-in_err-shut_still-clause-over
-returns-in_err-shut_still-clause-over g c =
-    ended-by-disk g.W.Outside (number_in c.args.self.now.seating c.args.seat) c.come_back.new.self c.args.outside.now c.loop-left.outside c.come_back.new.outside c.args.tally.now c.loop-left.tally c.come_back.new.tally
-    c.from_residual.result c.in_err-shut_still.field-0.0 c.from_residual.ensures.1 c.loop-left.invariant.calm (omega (arith, c.requires.tally)) c.in_err-shut_still.ensures.ends
+pub returns-in_err-instruct : goal.returns-in_err-instruct
+returns-in_err-instruct g c = record {
+  keeps = keeps-ran g.W.Outside g.met.W.Outside.fewer_later c.args.self.now c.select.new.self c.loop-left.self c.come_back.new.self c.instruct.new.self c.args.seat c.args.limit c.loop-left.left c.args.outside.now c.loop-left.outside c.come_back.new.outside c.instruct.new.outside
+      c.select.ensures.shape c.loop-left.invariant.asks c.loop-left.invariant.parts c.come_back.ensures.keeps c.instruct.ensures.came.keeps;
+  ran = search rules;
+  on = search rules;
+  over = search rules;
+  turned = λ committed order store follows.
+      let begins = turn_in c.select.new.self c.args.seat c.args.limit committed order (tally_counts c.args.tally.now) in
+      let so = so-far g.W.Outside g.met.W.Outside.fewer_later c.args.store.now c.args.outside.now c.loop-left.outside c.come_back.new.outside committed _ _ c.loop-left.invariant.asks c.come_back.ensures.keeps.asks store
+      (c.in_ok-shut_still.ensures.turns begins c.loop-left.left committed order c.loop-left-test.true)
+      (c.loop-left.invariant.turns committed order store (subst (λ (x : Activity). KeepsDesk x committed) (sym c.select.ensures.shape) (follows-selected c.args.self.now c.args.seat committed follows))) in
+      subst (λ (x : Activity). AreTurns c.from_residual-in_err-instruct.result (turn_in x c.args.seat c.args.limit committed order (tally_counts c.args.tally.now)) c.instruct.new.self c.args.seat committed order (tally_counts c.instruct.new.tally)) c.select.ensures.shape
+      (handed (λ (r : Result _ TurnEnd). AreTurns r begins c.instruct.new.self c.args.seat committed order (tally_counts c.instruct.new.tally)) c.from_residual-in_err-instruct.result c.in_err-instruct.field-0.0 c.from_residual-in_err-instruct.ensures.1
+      (turn-ends begins c.come_back.new.self c.args.seat c.loop-left.left committed order (tally_counts c.come_back.new.tally) c.sound.ensures.sound c.in_ok-shut_still.ensures.on.stays.taken c.loop-left-test.true so.1 g.W.Outside c.come_back.new.outside c.instruct.new.outside c.come_back.new.tally c.instruct.new.tally
+      c.in_err-instruct.field-0.0 c.instruct.new.self refl c.instruct.ensures.counts.tally.pages_before c.in_err-instruct.ensures.came.over.disk (c.in_err-instruct.ensures.came.step committed order so.0 so.1.follows)));
+}
 
-pub returns-in_err-shut_still-clause-turned : goal.returns-in_err-shut_still-clause-turned
-returns-in_err-shut_still-clause-turned g c committed order store follows =
-    let inv = c.loop-left.invariant in
-    let begins = turn_in c.select.new.self c.args.seat c.args.limit committed order (tally_counts c.args.tally.now) in
-    let turning = inv.turns committed order store (subst (λ (x : Activity). KeepsDesk x committed) (sym c.select.ensures.shape) (follows-selected c.args.self.now c.args.seat committed follows)) in
-    let here = store-on g.W.Outside g.met.W.Outside.fewer_later c.args.store.now c.args.outside.now c.loop-left.outside committed inv.asks store in
-    subst (λ (x : Activity). AreTurns c.from_residual.result (turn_in x c.args.seat c.args.limit committed order (tally_counts c.args.tally.now)) c.come_back.new.self c.args.seat committed order (tally_counts c.come_back.new.tally)) c.select.ensures.shape
-    (handed (λ (r : Result _ TurnEnd). AreTurns r begins c.come_back.new.self c.args.seat committed order (tally_counts c.come_back.new.tally)) c.from_residual.result c.in_err-shut_still.field-0.0 c.from_residual.ensures.1
-    (c.in_err-shut_still.ensures.turns begins c.loop-left.left committed order c.loop-left-test.true here turning))
-
-pub returns-in_err-instruct-clause-keeps : goal.returns-in_err-instruct-clause-keeps
-returns-in_err-instruct-clause-keeps g c =
-    keeps-ran g.W.Outside g.met.W.Outside.fewer_later c.args.self.now c.select.new.self c.loop-left.self c.come_back.new.self c.instruct.new.self c.args.seat c.args.limit c.loop-left.left c.args.outside.now c.loop-left.outside c.come_back.new.outside c.instruct.new.outside
-    c.select.ensures.shape c.loop-left.invariant.asks c.loop-left.invariant.parts c.come_back.ensures.keeps c.instruct.ensures.came.keeps
-
-pub returns-in_err-instruct-clause-turned : goal.returns-in_err-instruct-clause-turned
-returns-in_err-instruct-clause-turned g c committed order store follows =
-    let begins = turn_in c.select.new.self c.args.seat c.args.limit committed order (tally_counts c.args.tally.now) in
-    let so = so-far g.W.Outside g.met.W.Outside.fewer_later c.args.store.now c.args.outside.now c.loop-left.outside c.come_back.new.outside committed _ _ c.loop-left.invariant.asks c.come_back.ensures.keeps.asks store
-    (c.in_ok-shut_still.ensures.turns begins c.loop-left.left committed order c.loop-left-test.true)
-    (c.loop-left.invariant.turns committed order store (subst (λ (x : Activity). KeepsDesk x committed) (sym c.select.ensures.shape) (follows-selected c.args.self.now c.args.seat committed follows))) in
-    subst (λ (x : Activity). AreTurns c.from_residual-in_err-instruct.result (turn_in x c.args.seat c.args.limit committed order (tally_counts c.args.tally.now)) c.instruct.new.self c.args.seat committed order (tally_counts c.instruct.new.tally)) c.select.ensures.shape
-    (handed (λ (r : Result _ TurnEnd). AreTurns r begins c.instruct.new.self c.args.seat committed order (tally_counts c.instruct.new.tally)) c.from_residual-in_err-instruct.result c.in_err-instruct.field-0.0 c.from_residual-in_err-instruct.ensures.1
-    (turn-ends begins c.come_back.new.self c.args.seat c.loop-left.left committed order (tally_counts c.come_back.new.tally) c.sound.ensures.sound c.in_ok-shut_still.ensures.on.stays.taken c.loop-left-test.true so.1 g.W.Outside c.come_back.new.outside c.instruct.new.outside c.come_back.new.tally c.instruct.new.tally
-    c.in_err-instruct.field-0.0 c.instruct.new.self refl c.instruct.ensures.counts.tally.pages_before c.in_err-instruct.ensures.came.over.disk (c.in_err-instruct.ensures.came.step committed order so.0 so.1.follows)))
-
-pub returns-in-AtCommit-clause-keeps : goal.returns-in-AtCommit-clause-keeps
-returns-in-AtCommit-clause-keeps g c =
-    keeps-ran g.W.Outside g.met.W.Outside.fewer_later c.args.self.now c.select.new.self c.loop-left.self c.come_back.new.self c.instruct.new.self c.args.seat c.args.limit c.loop-left.left c.args.outside.now c.loop-left.outside c.come_back.new.outside c.instruct.new.outside
-    c.select.ensures.shape c.loop-left.invariant.asks c.loop-left.invariant.parts c.come_back.ensures.keeps c.instruct.ensures.came.keeps
-
-pub returns-in-AtCommit-clause-ran : goal.returns-in-AtCommit-clause-ran
-returns-in-AtCommit-clause-ran g c =
-    omega (arith, c.loop-left.invariant.total, c.loop-left-test.true, ap (λ (tally : Tally). tally.ran) c.come_back.ensures.counts.rest, c.instruct.ensures.counts.tally.ran)
-
-pub returns-in-AtCommit-clause-turned : goal.returns-in-AtCommit-clause-turned
-returns-in-AtCommit-clause-turned g c committed order store follows =
-    let begins = turn_in c.select.new.self c.args.seat c.args.limit committed order (tally_counts c.args.tally.now) in
-    let so = so-far g.W.Outside g.met.W.Outside.fewer_later c.args.store.now c.args.outside.now c.loop-left.outside c.come_back.new.outside committed _ _ c.loop-left.invariant.asks c.come_back.ensures.keeps.asks store
-    (c.in_ok-shut_still.ensures.turns begins c.loop-left.left committed order c.loop-left-test.true)
-    (c.loop-left.invariant.turns committed order store (subst (λ (x : Activity). KeepsDesk x committed) (sym c.select.ensures.shape) (follows-selected c.args.self.now c.args.seat committed follows))) in
-    let at = subst (λ (went : Went). IsStep (Ok went) (instruction_in c.come_back.new.self c.args.seat committed order (tally_counts c.come_back.new.tally)) c.instruct.new.self c.args.seat committed order (tally_counts c.instruct.new.tally)) c.in-AtCommit.is (c.in_ok-instruct.ensures.came.step committed order so.0 so.1.follows) in
-    subst (λ (x : Activity). IsAtCommit (turn_in x c.args.seat c.args.limit committed order (tally_counts c.args.tally.now)) c.instruct.new.self c.args.seat committed order (tally_counts c.instruct.new.tally)) c.select.ensures.shape
-    (turn-commits begins c.come_back.new.self c.args.seat c.loop-left.left committed order (tally_counts c.come_back.new.tally) c.sound.ensures.sound c.in_ok-shut_still.ensures.on.stays.taken c.loop-left-test.true so.1 c.instruct.new.self (tally_counts c.instruct.new.tally) c.instruct.ensures.counts.tally.pages_before at)
+pub returns-in-AtCommit : goal.returns-in-AtCommit
+returns-in-AtCommit g c = record {
+  keeps = keeps-ran g.W.Outside g.met.W.Outside.fewer_later c.args.self.now c.select.new.self c.loop-left.self c.come_back.new.self c.instruct.new.self c.args.seat c.args.limit c.loop-left.left c.args.outside.now c.loop-left.outside c.come_back.new.outside c.instruct.new.outside
+      c.select.ensures.shape c.loop-left.invariant.asks c.loop-left.invariant.parts c.come_back.ensures.keeps c.instruct.ensures.came.keeps;
+  ran = omega (arith, c.loop-left.invariant.total, c.loop-left-test.true, ap (λ (tally : Tally). tally.ran) c.come_back.ensures.counts.rest, c.instruct.ensures.counts.tally.ran);
+  on = search rules;
+  over = search rules;
+  turned = λ committed order store follows.
+      let begins = turn_in c.select.new.self c.args.seat c.args.limit committed order (tally_counts c.args.tally.now) in
+      let so = so-far g.W.Outside g.met.W.Outside.fewer_later c.args.store.now c.args.outside.now c.loop-left.outside c.come_back.new.outside committed _ _ c.loop-left.invariant.asks c.come_back.ensures.keeps.asks store
+      (c.in_ok-shut_still.ensures.turns begins c.loop-left.left committed order c.loop-left-test.true)
+      (c.loop-left.invariant.turns committed order store (subst (λ (x : Activity). KeepsDesk x committed) (sym c.select.ensures.shape) (follows-selected c.args.self.now c.args.seat committed follows))) in
+      let at = subst (λ (went : Went). IsStep (Ok went) (instruction_in c.come_back.new.self c.args.seat committed order (tally_counts c.come_back.new.tally)) c.instruct.new.self c.args.seat committed order (tally_counts c.instruct.new.tally)) c.in-AtCommit.is (c.in_ok-instruct.ensures.came.step committed order so.0 so.1.follows) in
+      subst (λ (x : Activity). IsAtCommit (turn_in x c.args.seat c.args.limit committed order (tally_counts c.args.tally.now)) c.instruct.new.self c.args.seat committed order (tally_counts c.instruct.new.tally)) c.select.ensures.shape
+      (turn-commits begins c.come_back.new.self c.args.seat c.loop-left.left committed order (tally_counts c.come_back.new.tally) c.sound.ensures.sound c.in_ok-shut_still.ensures.on.stays.taken c.loop-left-test.true so.1 c.instruct.new.self (tally_counts c.instruct.new.tally) c.instruct.ensures.counts.tally.pages_before at);
+}
 
 pub go_far-ran-requires-clause-rows : goal.go_far-ran-requires-clause-rows
 go_far-ran-requires-clause-rows g c seat below =
     let kept = keeps-within c.args.self.now _ c.loop-left.self _ _ c.args.seat c.args.limit c.loop-left.left c.select.ensures.shape c.loop-left.invariant.parts c.come_back.ensures.keeps.parts c.instruct.ensures.came.keeps.parts in
     let here = kept.rows (2 ^ 63) c.requires.rows seat below in omega (arith, here, c.requires.limit)
 
-pub returns-clause-keeps : goal.returns-clause-keeps
-returns-clause-keeps g c = record {
-  asks = c.loop-left.invariant.asks;
-  parts = keeps-within c.args.self.now _ c.loop-left.self _ _ c.args.seat c.args.limit c.loop-left.left c.select.ensures.shape c.loop-left.invariant.parts (keeps-itself c.loop-left.self) (keeps-itself c.loop-left.self);
+pub returns : goal.returns
+returns g c = record {
+  keeps = record {
+    asks = c.loop-left.invariant.asks;
+    parts = keeps-within c.args.self.now _ c.loop-left.self _ _ c.args.seat c.args.limit c.loop-left.left c.select.ensures.shape c.loop-left.invariant.parts (keeps-itself c.loop-left.self) (keeps-itself c.loop-left.self);
+  };
+  ran = search rules;
+  on = search rules;
+  over = search rules;
+  turned = λ committed order store follows printed.
+      let old = c.loop-left.self in let seat = c.args.seat in let inv = c.loop-left.invariant in
+      let begins = turn_in c.select.new.self seat c.args.limit committed order (tally_counts c.args.tally.now) in
+      let turning = inv.turns committed order store (subst (λ (x : Activity). KeepsDesk x committed) (sym c.select.ensures.shape) (follows-selected c.args.self.now seat committed follows)) in
+      let none : c.loop-left.left ≡ 0 = omega (arith, c.loop-left-test.false) in
+      subst (λ (x : Activity). ComesToEnd (turn_in x seat c.args.limit committed order (tally_counts c.args.tally.now)) old committed order (tally_counts c.loop-left.tally) Limit) c.select.ensures.shape
+      (turn-limit begins old seat committed order (tally_counts c.loop-left.tally) (subst (λ (n : ℕ). IsTurning begins old seat n committed order (tally_counts c.loop-left.tally)) none turning));
 }
-
-pub returns-clause-turned : goal.returns-clause-turned
-returns-clause-turned g c committed order store follows printed =
-    let old = c.loop-left.self in let seat = c.args.seat in let inv = c.loop-left.invariant in
-    let begins = turn_in c.select.new.self seat c.args.limit committed order (tally_counts c.args.tally.now) in
-    let turning = inv.turns committed order store (subst (λ (x : Activity). KeepsDesk x committed) (sym c.select.ensures.shape) (follows-selected c.args.self.now seat committed follows)) in
-    let none : c.loop-left.left ≡ 0 = omega (arith, c.loop-left-test.false) in
-    subst (λ (x : Activity). ComesToEnd (turn_in x seat c.args.limit committed order (tally_counts c.args.tally.now)) old committed order (tally_counts c.loop-left.tally) Limit) c.select.ensures.shape
-    (turn-limit begins old seat committed order (tally_counts c.loop-left.tally) (subst (λ (n : ℕ). IsTurning begins old seat n committed order (tally_counts c.loop-left.tally)) none turning))
 
 pub come_back-requires-clause-can : goal.come_back-requires-clause-can
 come_back-requires-clause-can g c =
     let inv = c.loop-left.invariant in record {
-      fetch = record {
-        directory = c.requires.can.directory ∙ sym (inv.parts.directory ∙ ap (λ (x : Activity). x.reach.directory) c.select.ensures.shape);
-        usable = c.requires.can.usable;
-        room = (asks_only g.W.Outside c.args.outside.now c.loop-left.outside inv.asks).longer (total c.args.store.now.header) c.requires.can.room;
-      };
+      fetch = fetch-on c.requires.can (inv.parts.directory ∙ ap (λ (x : Activity). x.reach.directory) c.select.ensures.shape) inv.asks;
       taken = inv.stays.taken;
       selected = inv.selected;
     }
 
 pub instruct-requires-clause-can : goal.instruct-requires-clause-can
 instruct-requires-clause-can g c =
-    let inv = c.loop-left.invariant in let keeps = c.come_back.ensures.keeps in
-    let stays = c.in_ok-shut_still.ensures.on.stays in
-    let room = (asks_only g.W.Outside c.args.outside.now c.loop-left.outside inv.asks).longer (total c.args.store.now.header) c.requires.can.room in
-    record {
-      fetch = record {
-        directory = c.requires.can.directory ∙ sym (keeps.parts.directory ∙ inv.parts.directory ∙ ap (λ (x : Activity). x.reach.directory) c.select.ensures.shape);
-        usable = c.requires.can.usable;
-        room = (asks_only g.W.Outside c.loop-left.outside c.come_back.new.outside keeps.asks).longer (total c.args.store.now.header) room;
-      };
+    let inv = c.loop-left.invariant in let keeps = c.come_back.ensures.keeps in let stays = c.in_ok-shut_still.ensures.on.stays in record {
+      fetch = fetch-on (fetch-on c.requires.can (inv.parts.directory ∙ ap (λ (x : Activity). x.reach.directory) c.select.ensures.shape) inv.asks) keeps.parts.directory keeps.asks;
       taken = stays.taken;
       selected = stays.selected inv.selected;
     }

@@ -1,4 +1,4 @@
-use Rattle.activations.proofs.Lemmas.{◌+◌, AreWanted, Layout, wants_of, let-on, touch-on, number_in, TurnEnd, Tally, IsInstruction, instruction_in, tally_counts, Result, ap, arith, subst, sym, ◌∙◌, total, asks_only, store-on, keeps-all-on, keeps-all-then, handed, ended-by-disk, ended-so, rules}
+use Rattle.activations.proofs.Lemmas.{◌+◌, AreWanted, Layout, wants_of, let-on, touch-on, number_in, TurnEnd, Tally, IsInstruction, instruction_in, tally_counts, Result, ap, arith, subst, sym, ◌∙◌, fetch-on, store-on, keeps-all-on, keeps-all-then, handed, ended-by-disk, ended-so, rules}
 use Rattle.activations.proofs.activations.Activations.serve.Goals as goal
 
 pub returns-in_err-touch-clause-came : goal.returns-in_err-touch-clause-came
@@ -53,11 +53,7 @@ returns-clause-came g c = record {
 
 pub get-requires-clause-can : goal.get-requires-clause-can
 get-requires-clause-can g c = record {
-  fetch = record {
-    directory = c.requires.can.fetch.directory ∙ sym (c.ask.ensures.keeps.directory ∙ c.prepare.ensures.came.keeps.parts.directory);
-    usable = c.requires.can.fetch.usable;
-    room = (asks_only g.W.Outside c.args.outside.now c.prepare.new.outside c.prepare.ensures.came.keeps.asks).longer (total c.args.store.now.header) c.requires.can.fetch.room;
-  };
+  fetch = fetch-on c.requires.can.fetch (c.ask.ensures.keeps.directory ∙ c.prepare.ensures.came.keeps.parts.directory) c.prepare.ensures.came.keeps.asks;
   taken = c.in_ok-ask.ensures.stays.seated.taken;
   selected = c.in_ok-ask.ensures.stays.seated.selected (c.in_ok-touch.ensures.came.on.stays.selected c.requires.can.selected);
 }
