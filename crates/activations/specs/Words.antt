@@ -7,5 +7,5 @@ pub use Rattle.activations.specs.Recorded.{HasWritten, IsItsStore, IsRecordOf, L
 pub use Rattle.activations.specs.Serving.{Grants, GrantsPicked, lines_with, locked, Lowers, with_entries}
 pub use Rattle.activations.specs.Stages.{AreAwaited, BringsIn, CanFetch, CanServe, ComesIn, ComesOut, CountsOne, CountsPages, CountsRefused, Disputes, EndsByDisk, EndsChecked, Fetches, GoesFar, GoesServed, HasCome, HasRoom, IsOver, KeepsAll, KeepsLimit, KeepsStore, KeepsTurning, MayGet, RunsTurn, ServesFree, SettlesAsked, StaysCalm}
 pub use Rattle.activations.specs.Steps.{EndsWritten, IsDeserted, IsMoved, IsRestarted, LeavesRolled, LeavesWritten, reprinted, rolled, with_pool, wrote}
-pub use Rattle.activations.specs.Touched.{AreWanted, lines_between, page_if, pages_picked, pages_wanted, wants_of, with_whole_page}
+pub use Rattle.activations.specs.Touched.{AreWanted, page_if, pages_picked, pages_wanted, wants_of, with_whole_page}
 pub use Rattle.activations.specs.Turning.{IsInstruction, IsStep, MayBeShut, Prepares, selected_in, Settles}

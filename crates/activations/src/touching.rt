@@ -1,12 +1,11 @@
 // The lines of the store that an access touches, and the most that are written.
-ghost use Rattle.std.specs.Prelude.{◌≡◌, ◌+◌, ◌-◌, ◌<◌, ◌≤◌, true, length};
-ghost use Rattle.activations.specs.Below.{byte_count, difference, has, line_of, lines_wanted, located_by, page_count, start_of};
-ghost use Rattle.activations.specs.Words.{AreWanted, held_to_write, IsSound, KeepsLimit, lines_accessed, lines_between, lines_with, live_in, wants_of, wrote};
+ghost use Rattle.std.specs.Prelude.{◌≡◌, ◌<◌, ◌≤◌, true, length};
+ghost use Rattle.activations.specs.Below.{difference, has, lines_wanted, located_by, page_count};
+ghost use Rattle.activations.specs.Words.{AreWanted, held_to_write, IsSound, KeepsLimit, lines_accessed, lines_with, live_in, wants_of, wrote};
 
 use super::activations::Activations;
 use super::touch::Touch;
 use desk::TurnEnd;
-use lines::Directory;
 use page_table::{Check, Virtual};
 use romp_cpu::Access;
 use seats::Want;
@@ -30,8 +29,13 @@ impl Activations {
         if first.segment >= PRIVATE {
             Touch::Nothing
         } else {
-            let offset = access.address % 0x1000_0000;
-            touch_from(directory, first.segment, offset, access)
+            let place = directory.start_of(first.segment) + access.address % 0x1000_0000;
+            let end = place + u32::from(access.bytes) - 1;
+            Touch::between(
+                directory.line_of(place),
+                directory.line_of(end),
+                access.store,
+            )
         }
     }
 
@@ -106,22 +110,4 @@ impl Activations {
         let (_, writes) = self.seats.locks().held(seat, want.page);
         want.writes.difference(writes).count()
     }
-}
-
-/// The lines that an access touches whose first byte is at an offset of a segment of the store.
-#[inline(always)]
-fn touch_from(directory: &Directory, segment: u16, offset: u32, access: Access) -> Touch
-    requires some { 0 < access.bytes }
-    requires few { access.bytes ≤ 64 }
-    requires fits { start_of directory.now segment + offset + access.bytes ≤ byte_count directory.now }
-    ensures lines { lines_wanted (wants_of result) ≡ lines_between (line_of directory.now (start_of directory.now segment + offset)) (line_of directory.now (start_of directory.now segment + offset + access.bytes - 1)) access.store }
-    ensures wanted { AreWanted directory.now (wants_of result) }
-{
-    let place = directory.start_of(segment) + offset;
-    let end = place + u32::from(access.bytes) - 1;
-    Touch::between(
-        directory.line_of(place),
-        directory.line_of(end),
-        access.store,
-    )
 }
