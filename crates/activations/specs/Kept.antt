@@ -1,12 +1,13 @@
 -- What an attempt in a seat came to, what stays while those that run are served, and rows of what runs in a seat beside what it reaches.
 use Rattle.std.specs.Prelude.{[], ◌≡◌, ◌⊎◌, ℕ, ◌+◌, ◌<◌, ◌≤◌, List, ◌∷◌, ◌++◌, length, slice_set, true, slice_index_or, Option, Some, None}
-use Rattle.activations.specs.Below.{Access, byte_count, Check, Commit, Counts, Going, has, IsClean, IsShutOut, lines_wanted, number_in, On, Outcome, Plain, plain_over, private_bytes, Reach, row, sitter, touched, turns, unowned, Want, Word}
+use Rattle.activations.specs.Below.{Access, byte_count, Check, Commit, Counts, Going, has, IsClean, IsShutOut, lines_wanted, number_in, On, Outcome, Plain, plain_over, private_bytes, Reach, reach_of, row, sitter, touched, turns, unowned, Want, Word}
 use Rattle.romp_cpu.specs.declared.cpu.Attempt.{Attempt}
 use Rattle.romp_cpu.specs.declared.cpu.Cpu.{Cpu}
 use Rattle.romp_cpu.specs.Tried.{at}
 use Rattle.activations.specs.Activity.{Activity, live_in, program_in, desk_over}
 use Rattle.activations.specs.Follows.{KeepsDesk, IsSound}
 use Rattle.activations.specs.Steps.{executed, counted, HasExecuted}
+use Rattle.storage_unit.specs.declared.unit.Unit.{Unit}
 use Rattle.activations.specs.declared.live.Live.{Live}
 
 -- the unit is what a seat reaches
@@ -140,3 +141,11 @@ pub record HasStrode (result : ℕ × Option Access) (limit : ℕ) (reach : Reac
   pub strode : (a : Activity) (seat : ℕ) → RunsAt a seat reach live → StrodeTo a seat result.0 new new_reach
   pub stopped : result.1 ≡ None → result.0 < limit → (a : Activity) (seat : ℕ) → RunsAt a seat reach live → IsStopped (with_live a seat new new_reach) seat
   pub shut : (access : Access) → result.1 ≡ Some access → (a : Activity) (seat : ℕ) → RunsAt a seat reach live → IsShut (with_live a seat new new_reach) seat access
+
+-- the same of what runs in a seat from an address that is kept beside it: an attempt came to this
+abbrev pub TriesFrom : Attempt → (unit : Unit) → Live → (iar : ℕ) → (new : Unit) → Live → (iar : ℕ) → Type 0
+TriesFrom attempt unit live iar new later left = HasTried attempt (reach_of unit) (standing live iar) (reach_of new) (standing later left)
+
+-- and so many rows at most
+abbrev pub StridesFrom : (result : ℕ × Option Access) → (limit : ℕ) → (unit : Unit) → Live → (iar : ℕ) → (new : Unit) → Live → (iar : ℕ) → Type 0
+StridesFrom result limit unit live iar new later left = HasStrode result limit (reach_of unit) (standing live iar) (reach_of new) (standing later left)

@@ -1,6 +1,6 @@
 // Rows that need nobody else: an attempt, and a run of them.
 ghost use Rattle.std.specs.Prelude.{◌≡◌, ◌≤◌, ◌<◌, true, Some, None};
-ghost use Rattle.activations.specs.Kept.{WasAttempted, IsShut, IsStopped, HasStrode, HasTried, RunsSomewhere, standing, KeepsParts, IsSelected, Strode};
+ghost use Rattle.activations.specs.Kept.{WasAttempted, IsShut, IsStopped, HasStrode, HasTried, RunsSomewhere, standing, StridesFrom, KeepsParts, IsSelected, Strode, TriesFrom};
 ghost use Rattle.activations.specs.Below.{has, reach_of};
 ghost use Rattle.romp_cpu.specs.Tried.{how_went};
 
@@ -54,7 +54,7 @@ fn attempt_on(unit: &mut Unit, live: &mut Live) -> Attempt
 #[inline(always)]
 fn step_on(unit: &mut Unit, live: &mut Live, iar: &mut u32, went: &mut Attempt) -> bool
     requires runs { RunsSomewhere (reach_of unit.old) (standing live.old iar.old) }
-    ensures { HasTried (how_went result went.new) (reach_of unit.old) (standing live.old iar.old) (reach_of unit.new) (standing live.new iar.new) }
+    ensures { TriesFrom (how_went result went.new) unit.old live.old iar.old unit.new live.new iar.new }
 {
     if unit.step(&mut live.cpu, iar, went) {
         return true;
@@ -81,7 +81,7 @@ fn stride_on(unit: &mut Unit, live: &mut Live, limit: u32) -> (u32, Option<Acces
 #[inline(always)]
 fn stride_from(unit: &mut Unit, live: &mut Live, iar: &mut u32, limit: u32) -> (u32, Option<Access>)
     requires runs { RunsSomewhere (reach_of unit.old) (standing live.old iar.old) }
-    ensures { HasStrode result limit (reach_of unit.old) (standing live.old iar.old) (reach_of unit.new) (standing live.new iar.new) }
+    ensures { StridesFrom result limit unit.old live.old iar.old unit.new live.new iar.new }
 {
     let mut went = Attempt::Went;
     let mut ran = 0;
