@@ -1,6 +1,6 @@
 // The listing of a job's programs.
-ghost use Rattle.std.specs.Prelude.{◌≡◌, [], length};
-ghost use Rattle.console.specs.Below.{call, content_of, given, IsOfLines, Puts, PutsTimes, ReadFaultsBy, ReadsBy};
+ghost use Rattle.std.specs.Prelude.{◌≡◌, length};
+ghost use Rattle.console.specs.Below.{content_of, given, IsOfLines, Puts, PutsTimes, ReadsBy, RoomReads};
 ghost use Rattle.console.specs.Listed.{Listed, listings_of, lines_listed};
 
 use call_status::{Status, job_from};
@@ -12,9 +12,8 @@ use std::alloc::Global;
 /// Lists the programs of a source's job, in its order.
 pub fn list_source<S: Source, W: Outside>(alloc: Global, source: &mut S, outside: &mut W) -> Status
     ensures read { ReadsBy (given S.Source source.old source.new) result }
-    ensures listed { Listed W.Outside (given S.Source source.old source.new) (call outside.old outside.new [] result) }
-    ensures faults { ReadFaultsBy W.Outside (given S.Source source.old source.new) outside.old outside.new result }
-    ensures only { IsOfLines result }
+    ensures ends { RoomReads S.Source W.Outside (Listed W.Outside) IsOfLines
+        source.old source.new outside.old outside.new result }
 {
     match job_from(alloc, source) {
         Err(status) => status,

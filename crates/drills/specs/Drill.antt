@@ -1,6 +1,6 @@
 -- What a job leaves on a disk that stops at one of its writes.
 use Rattle.std.specs.Prelude.{◌≢◌, ◌≡◌, ◌⊎◌, ℕ, ◌+◌, ◌*◌, ◌%◌, ◌^◌, ◌<◌, ◌≤◌, true, false, List, [], length, map, take, count_by, Some}
-use Rattle.drills.specs.Below.{Call, commits_seen, disk_faults, disk_first, disk_held, disk_plan, disk_writes, FlatStore, Ghosts, Job, job_desk, MemoryDisk, names_of, order_told, outcome_of, Rose, Stands, stands, Status}
+use Rattle.drills.specs.Below.{Call, call, commits_seen, disk_faults, disk_first, disk_held, disk_plan, disk_writes, FlatStore, Ghosts, Job, job_desk, MemoryDisk, names_of, order_told, outcome_of, Rose, Stands, stands, StandsAt, Status}
 use Rattle.outside.specs.declared.memory_screen.MemoryScreen.{MemoryScreen}
 use Rattle.outside.specs.MemoryScreen.{screen_printed}
 use Rattle.outside.specs.Runs.{held_of}
@@ -70,3 +70,13 @@ pub record IsStop (job : Job) (held : List ℕ) (number : ℕ) (store : FlatStor
   pub whole : stop.reached ≡ false → order_told stop.order.items ≡ fine_order job held store
   pub all : stop.reached ≡ false → j ≡ length stop.order.items
   pub all_seen : stop.reached ≡ false → stop.seen ≡ length stop.order.items
+
+-- this is so of the number and the store for which an image stands
+abbrev pub OfStanding : (image : List ℕ) → (ℕ → FlatStore → Type 0) → Type 0
+OfStanding image P = (number : ℕ) (store : FlatStore) → stands image ≡ Stands number store → P number store
+
+-- A copy of a job was run: what it left of the store on which every image stands; where the disk began stays, and a failed one is told only where its count rose.
+pub record HasRunCopy {W : Type 0} (G : Ghosts W) (job : Job) (before after : W) (ended : Ended) : Type 0 where
+  pub left : (number : ℕ) (store : FlatStore) → StandsAt G before number store → IsLeft G job number store (call before after (order_told ended.order.items) ended.status)
+  pub origin : (G.moment after).origin ≡ (G.moment before).origin
+  pub disk : ended.status ≡ Status.DiskFault → Rose (G.disk_faults before) (G.disk_faults after)

@@ -1,10 +1,11 @@
 // A drill: a job that is stopped at its writes in turn.
-ghost use Rattle.std.specs.Prelude.{◌≡◌, ◌⊎◌, ◌≤◌, ℕ, [], length, MatchOption, IfOk};
-ghost use Rattle.drills.specs.Below.{call, FlatStore, given, IsReady, IsStanding, Puts, PutsTimes, Stands, stands};
+ghost use Rattle.std.specs.Prelude.{◌≡◌, ◌⊎◌, ◌≤◌, length, MatchOption, IfOk};
+ghost use Rattle.drills.specs.Below.{given, IsReady, IsStanding, Puts, PutsTimes};
+ghost use Rattle.drills.specs.Drill.{OfStanding};
 ghost use Rattle.drills.specs.Drilled.{Drilled, DrilledTo, EndsBefore, IsFound, IsPair, PutsStops, try_order, stop_line, pair_lines, last_line};
 ghost use Rattle.call_status.specs.Reading.{ReadsBy};
 ghost use Rattle.call_status.specs.Statuses.{IsOfLines};
-ghost use Rattle.call_status.specs.Faults.{ReadFaultsBy};
+ghost use Rattle.call_status.specs.Faults.{RoomReads};
 
 use super::stops::drill_stop;
 use call_status::{Status, job_from};
@@ -39,9 +40,8 @@ pub struct Pair {
 /// for each stop and one for the run that isn't stopped (docs/FORMATS.md, "Drill"). The disk that is handed in isn't called.
 pub fn drill_source<S: Source, W: Outside>(alloc: Global, source: &mut S, outside: &mut W) -> Status
     ensures read { ReadsBy (given S.Source source.old source.new) result }
-    ensures drilled { Drilled W.Outside (given S.Source source.old source.new) (call outside.old outside.new [] result) }
-    ensures faults { ReadFaultsBy W.Outside (given S.Source source.old source.new) outside.old outside.new result }
-    ensures only { IsOfLines result }
+    ensures ends { RoomReads S.Source W.Outside (Drilled W.Outside) IsOfLines
+        source.old source.new outside.old outside.new result }
 {
     match job_from(alloc, source) {
         Err(status) => status,
@@ -132,7 +132,7 @@ fn found_at(
 /// The number that restart finds in these bytes, which stand for a store.
 fn number_in(alloc: Global, image: Vec<u8>) -> Result<u64, AllocError>
     requires { IsStanding image.items }
-    ensures { (number : ℕ) (store : FlatStore) → stands image.items ≡ Stands number store → IfOk result (λ found. found ≡ number) }
+    ensures { OfStanding image.items (λ number store. IfOk result (λ found. found ≡ number)) }
 {
     let disk = MemoryDisk::new(alloc, image, Vec::new(alloc));
     let screen = MemoryScreen::new(alloc, Vec::new(alloc));

@@ -1,7 +1,7 @@
 // A job that runs on a disk in memory until the disk stops.
-ghost use Rattle.std.specs.Prelude.{◌≡◌, ◌*◌, ◌≤◌, ℕ, true, length, IfOk};
-ghost use Rattle.drills.specs.Below.{call, commits_seen, FlatStore, IsReady, IsStanding, order_told, Rose, Stands, stands, StandsAt};
-ghost use Rattle.drills.specs.Drill.{IsLeft, IsStop, IsTold, fine_order};
+ghost use Rattle.std.specs.Prelude.{◌≡◌, ◌*◌, ◌≤◌, true, length, IfOk};
+ghost use Rattle.drills.specs.Below.{commits_seen, IsReady, IsStanding};
+ghost use Rattle.drills.specs.Drill.{HasRunCopy, IsStop, IsTold, OfStanding, fine_order};
 ghost use Rattle.drills.specs.Stopping.{IsStopping};
 
 use super::job_copy::copy_of;
@@ -42,8 +42,10 @@ pub fn drill_stop(
     requires ready { IsReady job.now }
     requires write { 1 ≤ write }
     requires stands { IsStanding image.items }
-    ensures stop { (number : ℕ) (store : FlatStore) → stands image.items ≡ Stands number store → IfOk result (IsStop job.now image.items number store write outcome.items) }
-    ensures reached { (number : ℕ) (store : FlatStore) → stands image.items ≡ Stands number store → write ≤ 2 * length (fine_order job.now image.items store) → IfOk result (λ stop. stop.reached ≡ true) }
+    ensures stop { OfStanding image.items (λ number store. IfOk result
+        (IsStop job.now image.items number store write outcome.items)) }
+    ensures reached { OfStanding image.items (λ number store.
+        write ≤ 2 * length (fine_order job.now image.items store) → IfOk result (λ stop. stop.reached ≡ true)) }
 {
     let disk = StoppingDisk::new(alloc, image, write, outcome);
     let mut outside = Joint::new(disk, MemoryScreen::new(alloc, Vec::new(alloc)));
@@ -55,9 +57,7 @@ pub fn drill_stop(
 /// Runs a job, and keeps it.
 fn run_copy<W: Outside>(alloc: Global, job: &Job, outside: &mut W) -> Result<Ended, AllocError>
     requires { IsReady job.now }
-    ensures left { (number : ℕ) (store : FlatStore) → StandsAt W.Outside outside.old number store → IfOk result (λ ended. IsLeft W.Outside job.now number store (call outside.old outside.new (order_told ended.order.items) ended.status)) }
-    ensures origin { IfOk result (λ ended. (W.moment outside.new).origin ≡ (W.moment outside.old).origin) }
-    ensures disk { IfOk result (λ ended. ended.status ≡ Status.DiskFault → Rose (W.disk_faults outside.old) (W.disk_faults outside.new)) }
+    ensures { IfOk result (HasRunCopy W.Outside job.now outside.old outside.new) }
 {
     Ok(try_job(alloc, copy_of(alloc, job)?, outside))
 }

@@ -8,7 +8,8 @@ use Rattle.schedule_replay.specs.Quiet.{is_rollback, out_after}
 use Rattle.call_status.specs.declared.status.Status.TheVariants as status
 use Rattle.job_calls.specs.Causes.{OpensBy}
 use Rattle.job_calls.specs.Handed.{HandedRuns}
-use Rattle.job_calls.specs.Headline.{ByOpening, FoundNoStore, Refused, RunsFrom, Untouched}
+use Rattle.job_calls.specs.Headline.{ByOpening, ended_call, EndsEvents, FoundNoStore, Refused, RunsFrom, Untouched}
+use Rattle.job_calls.specs.declared.ended.Ended.{Ended}
 use Rattle.call_status.specs.Printed.{put_of, PutsOnce, PrintsBy}
 
 -- the line of a load: its transfers, how many commits and rollbacks its run had, and what the last commit printed
@@ -66,3 +67,8 @@ pub record Loaded {W : Type 0} (G : Ghosts W) (transfers : ℕ) (call : Call W) 
   pub put : call.status ≢ Status.PutFault → G.put_faults call.after ≡ G.put_faults call.before
   pub opens : OpensBy G call.before call.after call.status session
   pub by_status : LoadedBy G transfers call session call.status
+
+-- a call did that and ended as a run of events does
+pub record EndsLoad {W : Type 0} (G : Ghosts W) (transfers : ℕ) (before after : W) (ended : Ended) : Type 0 where
+  pub loaded : Loaded G transfers (ended_call before after ended) ended.session
+  pub ends : EndsEvents G before after ended

@@ -1,7 +1,8 @@
 -- What a call of the console did: the run of the desk that its report tells of and what a crash leaves of it, or nothing.
 use Rattle.std.specs.Prelude.{◌≡◌, ◌≢◌, ◌⊎◌, ℕ, ◌+◌, ◌%◌, ◌^◌, true, false, List, [], ◌++◌, length, map, take, slice_set, Option, None, Some, IsSome, Result, Ok, Err}
-use Rattle.job_calls.specs.Below.{begun, Call, call, Elapses, FlatStore, Ghosts, Given, held_of, IsFaultAt, IsOfStart, IsSerial, Job, Leaves, Line, line_text, OnlyAsks, Open, order_told, Replayed, Session, Status, StillTold, TellsStore, FaultsBy}
+use Rattle.job_calls.specs.Below.{begun, Call, call, Elapses, FlatStore, Ghosts, Given, given, held_of, IsFaultAt, IsOfStart, IsSerial, Job, Leaves, Line, line_text, OnlyAsks, Open, order_told, Replayed, Session, Status, StillTold, TellsStore, FaultsBy, ReadFaultsBy}
 use Rattle.outside.specs.declared.failed.Failed.{Failed}
+use Rattle.outside.specs.declared.source.Source as source
 use Rattle.outside.specs.Bytes.{Prints}
 use Rattle.outside.specs.Causes.{Rose}
 use Rattle.flat_machine.specs.Serial.{serial}
@@ -20,8 +21,9 @@ use Rattle.schedule_replay.specs.Told.{TellsBy}
 use Rattle.supervisor.specs.contracts.supervisor.SessionSupervisor.TheImpl.{ghosts}
 use Rattle.job_text.specs.Grammar.{job_of, content_of}
 use Rattle.call_status.specs.declared.status.Status.TheVariants as status
+use Rattle.call_status.specs.Reading.{ReadsBy}
 use Rattle.call_status.specs.SourceText.{IsWhole}
-use Rattle.job_calls.specs.Causes.{status_of_replay, IsOfEvents}
+use Rattle.job_calls.specs.Causes.{status_of_replay, IsOfEvents, IsOfRun, OpensBy}
 use Rattle.job_calls.specs.Handed.{HandedRuns, HandsOn, HandedFits}
 use Rattle.job_calls.specs.declared.ended.Ended.{Ended}
 
@@ -181,3 +183,20 @@ Happened G given call session = DidOn G (RanJob G given call session) (PutJob G 
 -- the same for a job that is given
 abbrev pub HappenedTo : {W : Type 0} → Ghosts W → Job → Call W → Option Session → Type 0
 HappenedTo G job call session = DidOn G (HasRunFrom G job call session) (TellsJob G job call) call session
+
+-- A call ran a job that is given, as it ended: what the bytes tell of its status, what it did, the programs of the session that is handed on, and that.
+pub record HasRunJob {W : Type 0} (G : Ghosts W) (job : Job) (before after : W) (ended : Ended) : Type 0 where
+  pub opened : OpensBy G before after ended.status ended.session
+  pub happened : HappenedTo G job (ended_call before after ended) ended.session
+  pub runs : HandedRuns job.programs.items ended.session
+  pub ends : EndsEvents G before after ended
+
+-- the same for the job of a source, with what its text and the faults in it tell of the status
+pub record RunsSource {S W : Type 0} (F : source.Ghosts S) (G : Ghosts W) (old new : S) (before after : W) (ended : Ended) : Type 0 where
+  pub read : ReadsBy (given F old new) ended.status
+  pub opened : OpensBy G before after ended.status ended.session
+  pub faults : ReadFaultsBy G (given F old new) before after ended.status
+  pub happened : Happened G (given F old new) (ended_call before after ended) ended.session
+  pub handed : HandsOn (order_told ended.order.items) ended.session ended.status
+  pub fits : HandedFits G after ended.session
+  pub only : IsOfRun ended.status

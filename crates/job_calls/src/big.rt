@@ -1,10 +1,7 @@
 // A load with waits and victims, run without a report.
 ghost use Rattle.std.specs.Prelude.{◌≡◌, ◌≤◌, [], ◌∷◌, ◌++◌, length, vec_capacity};
-ghost use Rattle.job_calls.specs.Below.{begins_in, FaultsBy, IsBigJob, IsReady, order_told, Puts, PutsTimes, call};
-ghost use Rattle.job_calls.specs.Big.{IsToldBy, Loaded, big_line};
-ghost use Rattle.job_calls.specs.Causes.{IsOfEvents};
-ghost use Rattle.job_calls.specs.Headline.{ended_call, EndsEvents};
-ghost use Rattle.job_calls.specs.Handed.{HandedFits, HandsOn};
+ghost use Rattle.job_calls.specs.Below.{begins_in, IsBigJob, IsReady, Puts, PutsTimes, call};
+ghost use Rattle.job_calls.specs.Big.{EndsLoad, IsToldBy, big_line};
 
 use super::ended::Ended;
 use super::run::{begins_in, filled};
@@ -20,8 +17,7 @@ use text_line::TextLine;
 /// Runs a load of so many transfers on the disk's store, and prints its one line.
 pub fn run_load<W: Outside>(alloc: Global, transfers: u32, outside: &mut W) -> Ended
     requires { transfers ≤ 512 }
-    ensures loaded { Loaded W.Outside transfers (ended_call outside.old outside.new result) result.session }
-    ensures ends { EndsEvents W.Outside outside.old outside.new result }
+    ensures { EndsLoad W.Outside transfers outside.old outside.new result }
 {
     match big_job(alloc, transfers) {
         Ok(job) => run_with_order(alloc, transfers, job, outside),
@@ -33,8 +29,7 @@ pub fn run_load<W: Outside>(alloc: Global, transfers: u32, outside: &mut W) -> E
 fn run_with_order<W: Outside>(alloc: Global, transfers: u32, job: Job, outside: &mut W) -> Ended
     requires load { IsBigJob transfers job }
     requires ready { IsReady job }
-    ensures loaded { Loaded W.Outside transfers (ended_call outside.old outside.new result) result.session }
-    ensures ends { EndsEvents W.Outside outside.old outside.new result }
+    ensures { EndsLoad W.Outside transfers outside.old outside.new result }
 {
     let begins = begins_in(&job.events);
     match Vec::with_capacity(alloc, begins as usize) {
@@ -57,8 +52,7 @@ fn open_and_run<W: Outside>(
     requires begins { begins ≡ begins_in job.events.items }
     requires none { order.items ≡ [] }
     requires room { begins ≤ vec_capacity order }
-    ensures loaded { Loaded W.Outside transfers (ended_call outside.old outside.new result) result.session }
-    ensures ends { EndsEvents W.Outside outside.old outside.new result }
+    ensures { EndsLoad W.Outside transfers outside.old outside.new result }
 {
     let mut session = match Session::open(alloc, outside, job.programs, job.frames, begins) {
         Ok(session) => session,

@@ -1,10 +1,8 @@
 // A job that runs on the store of a disk.
 ghost use Rattle.std.specs.Prelude.{◌≡◌, ◌≤◌, [], length, vec_capacity};
-ghost use Rattle.job_calls.specs.Below.{begins_in, FaultsBy, given, IsReady, order_told, ReadFaultsBy};
-ghost use Rattle.call_status.specs.Reading.{ReadsBy};
-ghost use Rattle.job_calls.specs.Causes.{IsOfEvents, IsOfRun, OpensBy, status_of_replay};
-ghost use Rattle.job_calls.specs.Handed.{HandedFits, HandedRuns, HandsOn};
-ghost use Rattle.job_calls.specs.Headline.{Happened, HappenedTo, ended_call, EndsEvents};
+ghost use Rattle.job_calls.specs.Below.{begins_in, IsReady};
+ghost use Rattle.job_calls.specs.Causes.{status_of_replay};
+ghost use Rattle.job_calls.specs.Headline.{HasRunJob, RunsSource};
 
 use super::ended::Ended;
 use call_status::{Status, job_from};
@@ -17,13 +15,7 @@ use supervisor::Session;
 
 /// Runs the job of a source on the disk's store, and puts its report, a line at a time.
 pub fn run_source<S: Source, W: Outside>(alloc: Global, source: &mut S, outside: &mut W) -> Ended
-    ensures read { ReadsBy (given S.Source source.old source.new) result.status }
-    ensures opened { OpensBy W.Outside outside.old outside.new result.status result.session }
-    ensures faults { ReadFaultsBy W.Outside (given S.Source source.old source.new) outside.old outside.new result.status }
-    ensures happened { Happened W.Outside (given S.Source source.old source.new) (ended_call outside.old outside.new result) result.session }
-    ensures handed { HandsOn (order_told result.order.items) result.session result.status }
-    ensures fits { HandedFits W.Outside outside.new result.session }
-    ensures only { IsOfRun result.status }
+    ensures { RunsSource S.Source W.Outside source.old source.new outside.old outside.new result }
 {
     match job_from(alloc, source) {
         Err(status) => Ended::without_events(alloc, status),
@@ -34,10 +26,7 @@ pub fn run_source<S: Source, W: Outside>(alloc: Global, source: &mut S, outside:
 /// The store is opened, and the events of the job run. All memory is taken before the first of them.
 pub fn try_job<W: Outside>(alloc: Global, job: Job, outside: &mut W) -> Ended
     requires { IsReady job }
-    ensures opened { OpensBy W.Outside outside.old outside.new result.status result.session }
-    ensures happened { HappenedTo W.Outside job (ended_call outside.old outside.new result) result.session }
-    ensures runs { HandedRuns job.programs.items result.session }
-    ensures ends { EndsEvents W.Outside outside.old outside.new result }
+    ensures { HasRunJob W.Outside job outside.old outside.new result }
 {
     let begins = begins_in(&job.events);
     match Vec::with_capacity(alloc, begins as usize) {
@@ -58,10 +47,7 @@ fn run_job<W: Outside>(
     requires begins { begins ≡ begins_in job.events.items }
     requires none { order.items ≡ [] }
     requires room { begins ≤ vec_capacity order }
-    ensures opened { OpensBy W.Outside outside.old outside.new result.status result.session }
-    ensures happened { HappenedTo W.Outside job (ended_call outside.old outside.new result) result.session }
-    ensures runs { HandedRuns job.programs.items result.session }
-    ensures ends { EndsEvents W.Outside outside.old outside.new result }
+    ensures { HasRunJob W.Outside job outside.old outside.new result }
 {
     let mut session = match Session::open(alloc, outside, job.programs, job.frames, begins) {
         Ok(session) => session,

@@ -27,6 +27,10 @@ module _ {D W : Type 0} (S : desk.Ghosts D) (G : Ghosts W) (fewer_later : FewerL
   pub answered_puts : {T : Type 0} (lines : List Line) (desk : D) (before after : W) (result : Result T Failed) → S.sound desk → HoldsStore G (S.told desk).fixed.header before → Puts G lines before after result → Answered S G [] desk desk before after result
   answered_puts lines desk before after result sound bytes puts = grind (arith, nat_tests)
 
+  pub answered_then : {T U : Type 0} (events : List Event) (lines : List Line) (old new : D) (before between after : W) (value : T) (result : Result U Failed) → Answered S G events old new before between (Ok value) → Puts G lines between after result → Answered S G events old new before after result
+  answered_then events lines old new before between after value result one puts =
+      grind (arith, (elapses-trans G fewer_later before between after one.time puts.only.time), cause_since (G.put_faults before) (G.put_faults between) (G.put_faults after) value result one.cause puts.only.cause)
+
   module _ (events : List Event) (i : ℕ) (event : Event) (lt : i < length events) (old mid : D) (before between : W) where
     -- the next event may be asked
     pub ready_next : IsReady S G events old before → Answered S G (take i events) old mid before between done → IsReady S G (get_or events i event ∷ []) mid between

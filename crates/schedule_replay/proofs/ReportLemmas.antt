@@ -10,6 +10,10 @@ use Rattle.schedule_replay.specs.Told.{IsToldOf, Enters, AreLinesOf, AreOfEnd, T
 use Rattle.schedule_replay.specs.declared.events.Replayed.{Replayed}
 use Rattle.desk.specs.declared.supervisor.Supervisor as desk
 use Rattle.schedule_replay.specs.declared.events.Going.TheVariants as going
+use Rattle.schedule_replay.specs.declared.events.Replayed.TheVariants as replayed
+use Rattle.schedule_replay.specs.Answered.{way_of}
+use Rattle.schedule_replay.specs.Replays.{is_damaged, Replays}
+use Rattle.schedule_replay.specs.Runs.{Opening, Span}
 
 -- nothing is said of success where it failed
 times_failed : {T : Type 0} (P : Type 0) (result : Result T Failed) → IsErr result → OnOk result P
@@ -381,3 +385,11 @@ module _ {W : Type 0} (G : Ghosts W) (names : List (List ℕ)) (events : List Ev
 pub told_since : {W : Type 0} (G : Ghosts W) (names : List (List ℕ)) (events : List Event) (old new : List (ℕ × ℕ)) (before between after : W) → G.printed between ≡ G.printed before → (G.moment between).puts ≡ (G.moment before).puts
     → (how : Replayed) → TellsBy G names events old new between after how → TellsBy G names events old new before after how
 told_since G names events old new before between after same puts how = grind (arith, nat_tests, is_closed, times_since)
+
+-- what was reported is a replay that went so
+pub replays_so : {D W : Type 0} (S : desk.Ghosts D) (G : Ghosts W) (opening : Opening) (events : List Event) (new : D) (span : Span W) (how : Replayed)
+    → Reports S G opening events new span is_closed (way_of how) → IfOk (way_of how) (λ going. is_damaged going ≡ false) → Replays S G opening events new span how
+replays_so S G opening events new span (replayed.Damaged offset) reports undamaged = both_ways true undamaged refl
+replays_so S G opening events new span replayed.Ended reports undamaged = reports
+replays_so S G opening events new span replayed.Closed reports undamaged = reports
+replays_so S G opening events new span replayed.PutFault reports undamaged = reports

@@ -8,7 +8,7 @@ pub use Rattle.desk.specs.Kept.{HoldsStore, journal_in, KeepsJournal, StillTold,
 pub use Rattle.desk.specs.Lines.{Closed, End, Left, Line, line_text, Open}
 pub use Rattle.desk.specs.Report.{closing_lines, cycle_lines, ending_lines, event_lines, happening_lines, number_after, report, report_lines}
 pub use Rattle.desk.specs.Run.{faulted, Happening, IsRunOf, OpenBeforeEach, run}
-pub use Rattle.desk.specs.Told.{seen, Told}
+pub use Rattle.desk.specs.Told.{OfShown, seen, Told}
 pub use Rattle.desk.specs.declared.answers.Begun.{Begun}
 pub use Rattle.desk.specs.declared.answers.Reopened.{Reopened}
 pub use Rattle.desk.specs.declared.answers.Stored.{Stored}

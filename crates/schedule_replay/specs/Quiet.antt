@@ -1,6 +1,6 @@
 -- What running events without a report did.
-use Rattle.std.specs.Prelude.{◌≡◌, ℕ, ◌+◌, ◌≤◌, count_by, Bool, true, false, List, [], ◌++◌, map, Option, None, Some, IfSome, Result, Ok}
-use Rattle.schedule_replay.specs.Below.{Begun, Crash, Event, Failed, faulted, fold, Ghosts, is_commit, IsStage, Leaves, Line, OpenBeforeEach, Stored, TurnEnd, Word}
+use Rattle.std.specs.Prelude.{◌≡◌, ℕ, ◌+◌, ◌≤◌, count_by, Bool, true, false, List, [], ◌∷◌, ◌++◌, map, Option, None, Some, IfSome, Result, Ok}
+use Rattle.schedule_replay.specs.Below.{Begun, CallsDisk, Crash, Desk, Event, Failed, faulted, fold, Ghosts, held_of, is_commit, IsStage, IsSure, Leaves, Line, OpenBeforeEach, Stored, TurnEnd, Word}
 use Rattle.desk.specs.declared.answers.Begun.TheVariants as begun
 use Rattle.desk.specs.declared.answers.Stored.TheVariants as stored
 use Rattle.desk.specs.declared.answers.TurnEnd.TheVariants as end
@@ -11,9 +11,10 @@ use Rattle.schedule_replay.specs.declared.events.Going.TheVariants as going
 use Rattle.schedule_replay.specs.declared.quietly.Quiet.{Quiet}
 use Rattle.schedule_replay.specs.declared.quietly.Quiet.TheVariants as quiet
 use Rattle.schedule_replay.specs.declared.quietly.Tally.{Tally}
+use Rattle.schedule_replay.specs.Answered.{Answered, GoesBy, GoesShut, is_closed}
 use Rattle.schedule_replay.specs.Ran.{IfInDoubt, InDoubt, WasStep}
 use Rattle.schedule_replay.specs.RanTo.{RanTo}
-use Rattle.schedule_replay.specs.Runs.{Opening, Span, end_of, lines_of}
+use Rattle.schedule_replay.specs.Runs.{Opening, Span, end_of, lines_of, opening_of, span}
 
 -- no put failed
 abbrev pub unput : Result ℕ Failed
@@ -120,3 +121,26 @@ pub record RunsQuietly {D W : Type 0} (S : desk.Ghosts D) (G : Ghosts W) (openin
   pub tells : TellsAll quiet last (lines_of opening ran.taken)
   pub closed : (S.told new).closed ≡ is_shut quiet
   pub all : is_shut quiet ≡ false → rest ≡ []
+
+module _ {D W : Type 0} (S : desk.Ghosts D) (G : Ghosts W) (old new : D) (before after : W) where
+  -- What running events quietly did. From bytes that are sure, over which a desk is shown: what was run, its counts, and what a crash left at any moment.
+  pub record HasRunQuietly (events : List Event) (last : List ℕ) (quiet : Quiet) : Type 0 where
+    pub runs : (start : Desk) → IsSure G before → S.shows old (held_of G before) start → RunsQuietly S G (opening_of [] (S.told old).fixed start) events new (span before after) last quiet
+    pub goes : GoesBy S G old new before after (going_of quiet)
+    pub shut : (S.told old).closed ≡ true → GoesShut events (going_of quiet)
+    pub calls : CallsDisk G before after
+    pub answered : Answered S G events old new before after unput
+
+  -- what one event keeps, how it goes on, and that few were counted
+  pub record KeepsQuietly (event : Event) (tally : Option Tally) : Type 0 where
+    pub answered : Answered S G (event ∷ []) old new before after unput
+    pub goes : GoesBy S G old new before after (going_told tally)
+    pub shut : (S.told old).closed ≡ true → tally ≡ None
+    pub calls : CallsDisk G before after
+    pub closed : (S.told new).closed ≡ is_closed (going_told tally)
+    pub small : IfSome tally IsSmall
+
+  -- and what it did
+  pub record HasGoneQuietly (event : Event) (old_last new_last : List ℕ) (tally : Option Tally) : Type 0 where
+    pub kept : KeepsQuietly event tally
+    pub went : (start : Desk) → IsSure G before → S.shows old (held_of G before) start → WentQuietly S G (opening_of [] (S.told old).fixed start) event new (span before after) old_last new_last tally

@@ -1,6 +1,6 @@
 -- What replaying a schedule did.
-use Rattle.std.specs.Prelude.{◌≡◌, ℕ, length, Bool, true, false, List, [], ◌∷◌, ◌++◌, Result, IfOk, IsSome}
-use Rattle.schedule_replay.specs.Below.{Begun, Desk, Event, Failed, faulted, Ghosts, held_of, IsLeft, IsRunOf, IsStage, IsSure, Leaves, line_text, Open, Prints, Reopened, Word}
+use Rattle.std.specs.Prelude.{◌≡◌, ℕ, length, Bool, true, false, List, [], ◌∷◌, ◌++◌, map, Result, IfOk, IsSome}
+use Rattle.schedule_replay.specs.Below.{Begun, closing_lines, Desk, End, Event, Failed, faulted, Ghosts, held_of, IsLeft, IsRunOf, IsStage, IsSure, Leaves, Left, line_text, OfShown, OnlyPuts, Open, Prints, Reopened, Word}
 use Rattle.desk.specs.declared.answers.Begun.TheVariants as begun
 use Rattle.desk.specs.declared.answers.Reopened.TheVariants as reopened
 use Rattle.desk.specs.declared.supervisor.Supervisor as desk
@@ -8,12 +8,12 @@ use Rattle.schedule_replay.specs.declared.events.Going.{Going}
 use Rattle.schedule_replay.specs.declared.events.Going.TheVariants as going
 use Rattle.schedule_replay.specs.declared.events.Replayed.{Replayed}
 use Rattle.schedule_replay.specs.declared.events.Replayed.TheVariants as replayed
-use Rattle.schedule_replay.specs.Answered.{Answered, GoesBy, is_closed, way_of}
-use Rattle.schedule_replay.specs.Puts.{PutsTimes, shown_of}
-use Rattle.schedule_replay.specs.Ran.{Ran, PrintsEarlier, IfInDoubt, InDoubt, text_of}
+use Rattle.schedule_replay.specs.Answered.{Answered, GoesBy, GoesShut, is_closed, way_of}
+use Rattle.schedule_replay.specs.Puts.{Puts, PutsTimes, shown_of}
+use Rattle.schedule_replay.specs.Ran.{HasOpened, Ran, PrintsEarlier, IfInDoubt, InDoubt, text_of}
 use Rattle.schedule_replay.specs.RanTo.{RanTo}
-use Rattle.schedule_replay.specs.Runs.{Opening, Span, end_of, lines_of, opening_of, report_of, report_lines_of}
-use Rattle.schedule_replay.specs.Told.{Tells}
+use Rattle.schedule_replay.specs.Runs.{Opening, Span, end_of, lines_of, opening_of, report_of, report_lines_of, span}
+use Rattle.schedule_replay.specs.Told.{Tells, TellsReport, TellsSome}
 
 -- whether it was an answer that the bytes are damaged
 abbrev pub is_damaged : Going → Bool
@@ -81,3 +81,28 @@ pub record Reports {D W : Type 0} (S : desk.Ghosts D) (G : Ghosts W) (opening : 
 abbrev pub Replays : {D W : Type 0} → desk.Ghosts D → Ghosts W → Opening → List Event → D → Span W → Replayed → Type 0
 Replays S G opening events new span (replayed.Damaged offset) = ⊥
 Replays S G opening events new span how = Reports S G opening events new span is_closed (way_of how)
+
+module _ {D W : Type 0} (S : desk.Ghosts D) (G : Ghosts W) (names : List (List ℕ)) (events : List Event) (old new : D) (before after : W) where
+  -- What putting a report did. From bytes that are sure, over which a desk is shown: what was run, that what was printed is its report, or a prefix of it after
+  -- a failed put, what a crash left at any moment, and that no damage is found. Whatever stands on the disk: what was printed are the lines of the answers.
+  pub record HasReported (result : Result Going Failed) : Type 0 where
+    pub tells : TellsReport G names events (S.told old).order (S.told new).order before after is_closed result
+    pub reports : (start : Desk) → HasOpened S G old before start → Reports S G (opening_of names (S.told old).fixed start) events new (span before after) is_closed result
+    pub undamaged : (start : Desk) → HasOpened S G old before start → IfOk result (λ going. is_damaged going ≡ false)
+    pub goes : IfOk result (λ going. GoesBy S G old new before after going)
+    pub shut : (S.told old).closed ≡ true → IfOk result (GoesShut events)
+    pub answered : Answered S G events old new before after result
+
+  -- what the first of the events and their lines did, up to the one that closed the desk: the same, but for the lines around them
+  pub record HasPutEvents (result : Result Going Failed) : Type 0 where
+    pub tells : TellsSome G names events (S.told old).order (S.told new).order before after is_closed result
+    pub answered : Answered S G events old new before after result
+    pub goes : IfOk result (λ going. GoesBy S G old new before after going)
+    pub shut : (S.told old).closed ≡ true → IfOk result (GoesShut events)
+    pub ran : (start : Desk) → IsSure G before → S.shows old (held_of G before) start → RanSome S G (opening_of names (S.told old).fixed start) events new (span before after) result
+
+-- Only lines of an end are put, and where a desk is shown these are its closing lines.
+pub record PutsClosing {D W : Type 0} (S : desk.Ghosts D) (G : Ghosts W) (desk : D) (before after : W) {T : Type 0} (result : Result T Failed) : Type 0 where
+  pub only : OnlyPuts G before after result
+  pub some : (left : List ℕ) × (number : ℕ) × Puts G (map Left left ++ End number ∷ []) before after result
+  pub puts : OfShown (S.shows desk) (λ start. Puts G (closing_lines (S.told desk).fixed.opened [] start) before after result)

@@ -1,14 +1,12 @@
 // The events of a schedule, one after another, and their report.
-ghost use Rattle.std.specs.Prelude.{◌≡◌, ◌≤◌, ℕ, List, [], ◌∷◌, ◌++◌, All, true, false, length, map, IfOk};
-ghost use Rattle.schedule_replay.specs.Below.{closing_lines, Desk, End, held_of, IsSure, Left, OnlyPuts, stored_closes, turn_closes};
+ghost use Rattle.std.specs.Prelude.{◌≡◌, [], ◌∷◌, All};
+ghost use Rattle.schedule_replay.specs.Below.{stored_closes, turn_closes};
 ghost use Rattle.desk.specs.Seen.{IsUnbroken};
 ghost use Rattle.desk.specs.declared.event.Event.TheVariants as event;
-ghost use Rattle.schedule_replay.specs.Answered.{IsReady, Answered, GoesBy, GoesShut, is_closed, way_of, CanReplay};
-ghost use Rattle.schedule_replay.specs.Puts.{Puts};
-ghost use Rattle.schedule_replay.specs.Ran.{HasOpened};
-ghost use Rattle.schedule_replay.specs.Told.{TellsBy, TellsReport, TellsSome};
-ghost use Rattle.schedule_replay.specs.Runs.{opening_of, span};
-ghost use Rattle.schedule_replay.specs.Replays.{Replays, Reports, RanSome, WentBy, is_damaged, going_if, going_begun, going_by};
+ghost use Rattle.job_text.specs.Written.{texts_of};
+ghost use Rattle.schedule_replay.specs.Answered.{CanReplay, IsReady, way_of};
+ghost use Rattle.schedule_replay.specs.Runs.{span};
+ghost use Rattle.schedule_replay.specs.Replays.{HasPutEvents, HasReported, PutsClosing, WentBy, going_if, going_begun, going_by};
 
 use super::answer_lines::{
     Unended, put_begun, put_each_and, put_one, put_reopened, put_stored, put_turn,
@@ -46,18 +44,9 @@ pub fn replay<S: Supervisor, W: Outside>(
     events: &[Event],
     outside: &mut W,
 ) -> Replayed
-    requires ready { IsReady S.Supervisor W.Outside events.now desk.old outside.old }
-    requires names { length (S.told desk.old).fixed.programs ≤ length names.now }
-    requires unbroken { All (λ name. IsUnbroken name.items) names.now }
-
-    // From bytes that are sure, over which a desk is shown: what was run, that what was printed is its report, or a prefix of
-    // it after a failed put, and what a crash left at any moment.
-    ensures replays { (start : Desk) → HasOpened S.Supervisor W.Outside desk.old outside.old start → Replays S.Supervisor W.Outside (opening_of (map (λ name. name.items) names.now) (S.told desk.old).fixed start) events.now desk.new (span outside.old outside.new) result }
-    // Whatever stands on the disk: what was printed are the lines of the answers, and the order is the one that they tell of.
-    ensures tells { TellsBy W.Outside (map (λ name. name.items) names.now) events.now (S.told desk.old).order (S.told desk.new).order outside.old outside.new result }
-    ensures goes { IfOk (way_of result) (GoesBy S.Supervisor W.Outside desk.old desk.new outside.old outside.new) }
-    ensures shut { (S.told desk.old).closed ≡ true → IfOk (way_of result) (GoesShut events.now) }
-    ensures answered { Answered S.Supervisor W.Outside events.now desk.old desk.new outside.old outside.new (way_of result) }
+    requires { CanReplay S.Supervisor W.Outside names.now events.now desk.old outside.old }
+    ensures { HasReported S.Supervisor W.Outside (texts_of names.now) events.now
+        desk.old desk.new outside.old outside.new (way_of result) }
 {
     match put_report(desk, names, events, outside) {
         Err(Failed) => Replayed::PutFault,
@@ -75,12 +64,8 @@ fn put_report<S: Supervisor, W: Outside>(
     outside: &mut W,
 ) -> Result<Going, Failed>
     requires { CanReplay S.Supervisor W.Outside names.now events.now desk.old outside.old }
-    ensures tells { TellsReport W.Outside (map (λ name. name.items) names.now) events.now (S.told desk.old).order (S.told desk.new).order outside.old outside.new is_closed result }
-    ensures reports { (start : Desk) → HasOpened S.Supervisor W.Outside desk.old outside.old start → Reports S.Supervisor W.Outside (opening_of (map (λ name. name.items) names.now) (S.told desk.old).fixed start) events.now desk.new (span outside.old outside.new) is_closed result }
-    ensures undamaged { (start : Desk) → HasOpened S.Supervisor W.Outside desk.old outside.old start → IfOk result (λ going. is_damaged going ≡ false) }
-    ensures goes { IfOk result (λ going. GoesBy S.Supervisor W.Outside desk.old desk.new outside.old outside.new going) }
-    ensures shut { (S.told desk.old).closed ≡ true → IfOk result (GoesShut events.now) }
-    ensures answered { Answered S.Supervisor W.Outside events.now desk.old desk.new outside.old outside.new result }
+    ensures { HasReported S.Supervisor W.Outside (texts_of names.now) events.now
+        desk.old desk.new outside.old outside.new result }
 {
     let mut reporter = Reporter::new();
     put_one(&Line::Open(desk.number()), &mut reporter, outside)?;
@@ -100,9 +85,7 @@ fn put_closing<S: Supervisor, W: Outside>(
     outside: &mut W,
 ) -> Result<(), Failed>
     requires sound { S.sound desk.now }
-    ensures only { OnlyPuts W.Outside outside.old outside.new result }
-    ensures some { (left : List ℕ) × (number : ℕ) × Puts W.Outside (map Left left ++ End number ∷ []) outside.old outside.new result }
-    ensures puts { (held : List ℕ) (start : Desk) → S.shows desk.now held start → Puts W.Outside (closing_lines (S.told desk.now).fixed.opened [] start) outside.old outside.new result }
+    ensures { PutsClosing S.Supervisor W.Outside desk.now outside.old outside.new result }
 {
     let left = desk.active();
     let end = Line::End(desk.number());
@@ -118,11 +101,8 @@ fn put_events<S: Supervisor, W: Outside>(
     outside: &mut W,
 ) -> Result<Going, Failed>
     requires { CanReplay S.Supervisor W.Outside names.now events.now desk.old outside.old }
-    ensures tells { TellsSome W.Outside (map (λ name. name.items) names.now) events.now (S.told desk.old).order (S.told desk.new).order outside.old outside.new is_closed result }
-    ensures answered { Answered S.Supervisor W.Outside events.now desk.old desk.new outside.old outside.new result }
-    ensures goes { IfOk result (λ going. GoesBy S.Supervisor W.Outside desk.old desk.new outside.old outside.new going) }
-    ensures shut { (S.told desk.old).closed ≡ true → IfOk result (GoesShut events.now) }
-    ensures ran { (start : Desk) → IsSure W.Outside outside.old → S.shows desk.old (held_of W.Outside outside.old) start → RanSome S.Supervisor W.Outside (opening_of (map (λ name. name.items) names.now) (S.told desk.old).fixed start) events.now desk.new (span outside.old outside.new) result }
+    ensures { HasPutEvents S.Supervisor W.Outside (texts_of names.now) events.now
+        desk.old desk.new outside.old outside.new result }
 {
     for event in events {
         match answer(desk, names, *event, reporter, outside)? {
@@ -142,7 +122,8 @@ fn answer<S: Supervisor, W: Outside>(
     outside: &mut W,
 ) -> Result<Going, Failed>
     requires { CanReplay S.Supervisor W.Outside names.now (event ∷ []) desk.old outside.old }
-    ensures { WentBy S.Supervisor W.Outside (map (λ name. name.items) names.now) event desk.old desk.new (span outside.old outside.new) result }
+    ensures { WentBy S.Supervisor W.Outside (texts_of names.now) event
+        desk.old desk.new (span outside.old outside.new) result }
 {
     match event {
         Event::Begin { program, args } => {
@@ -179,7 +160,8 @@ fn answer_turn<S: Supervisor, W: Outside>(
 ) -> Result<Going, Failed>
     requires ready { IsReady S.Supervisor W.Outside (event.Turn activation limit ∷ []) desk.old outside.old }
     requires unbroken { All (λ name. IsUnbroken name.items) names.now }
-    ensures { WentBy S.Supervisor W.Outside (map (λ name. name.items) names.now) (event.Turn activation limit) desk.old desk.new (span outside.old outside.new) result }
+    ensures { WentBy S.Supervisor W.Outside (texts_of names.now) (event.Turn activation limit)
+        desk.old desk.new (span outside.old outside.new) result }
 {
     let turn = desk.turn(outside, activation, limit);
     let put = put_turn(&turn, activation, desk.printed(), reporter, outside);

@@ -1,10 +1,7 @@
 // The events of a schedule, one after another, without a report.
-ghost use Rattle.std.specs.Prelude.{◌≡◌, ◌≤◌, [], ◌∷◌, All, true, length, None, IfSome};
-ghost use Rattle.schedule_replay.specs.Below.{CallsDisk, Desk, held_of, IsSure};
-ghost use Rattle.desk.specs.declared.event.Event.TheVariants as event;
-ghost use Rattle.schedule_replay.specs.Answered.{IsReady, Answered, GoesBy, GoesShut, is_closed};
-ghost use Rattle.schedule_replay.specs.Runs.{opening_of, span};
-ghost use Rattle.schedule_replay.specs.Quiet.{IsLasting, IsSmall, RunsQuietly, WentQuietly, going_of, going_told, last_by, tally_begun, tally_by, tally_stored, unput};
+ghost use Rattle.std.specs.Prelude.{◌≡◌, ◌≤◌, [], ◌∷◌, All, length};
+ghost use Rattle.schedule_replay.specs.Answered.{IsReady};
+ghost use Rattle.schedule_replay.specs.Quiet.{HasGoneQuietly, HasRunQuietly, IsLasting, last_by, tally_begun, tally_by, tally_stored};
 
 use arrayvec::ArrayVec;
 use desk::{Begun, Event, Stored, Supervisor, Turn, TurnEnd};
@@ -48,13 +45,8 @@ pub fn run_quiet<S: Supervisor, W: Outside>(
     requires ready { IsReady S.Supervisor W.Outside events.now desk.old outside.old }
     requires few { length events.now ≤ 10000 }
     requires lasting { All IsLasting events.now }
-
-    // From bytes that are sure, over which a desk is shown: what was run, its counts, and what a crash left at any moment.
-    ensures runs { (start : Desk) → IsSure W.Outside outside.old → S.shows desk.old (held_of W.Outside outside.old) start → RunsQuietly S.Supervisor W.Outside (opening_of [] (S.told desk.old).fixed start) events.now desk.new (span outside.old outside.new) last.new.items result }
-    ensures goes { GoesBy S.Supervisor W.Outside desk.old desk.new outside.old outside.new (going_of result) }
-    ensures shut { (S.told desk.old).closed ≡ true → GoesShut events.now (going_of result) }
-    ensures calls { CallsDisk W.Outside outside.old outside.new }
-    ensures answered { Answered S.Supervisor W.Outside events.now desk.old desk.new outside.old outside.new unput }
+    ensures { HasRunQuietly S.Supervisor W.Outside desk.old desk.new outside.old outside.new
+        events.now last.new.items result }
 {
     let mut commits = 0;
     let mut rollbacks = 0;
@@ -80,13 +72,8 @@ fn answer<S: Supervisor, W: Outside>(
 ) -> Option<Tally>
     requires ready { IsReady S.Supervisor W.Outside (event ∷ []) desk.old outside.old }
     requires lasting { IsLasting event }
-    ensures answered { Answered S.Supervisor W.Outside (event ∷ []) desk.old desk.new outside.old outside.new unput }
-    ensures goes { GoesBy S.Supervisor W.Outside desk.old desk.new outside.old outside.new (going_told result) }
-    ensures shut { (S.told desk.old).closed ≡ true → result ≡ None }
-    ensures calls { CallsDisk W.Outside outside.old outside.new }
-    ensures closed { (S.told desk.new).closed ≡ is_closed (going_told result) }
-    ensures small { IfSome result IsSmall }
-    ensures went { (start : Desk) → IsSure W.Outside outside.old → S.shows desk.old (held_of W.Outside outside.old) start → WentQuietly S.Supervisor W.Outside (opening_of [] (S.told desk.old).fixed start) event desk.new (span outside.old outside.new) last.old.items last.new.items result }
+    ensures { HasGoneQuietly S.Supervisor W.Outside desk.old desk.new outside.old outside.new
+        event last.old.items last.new.items result }
 {
     match event {
         Event::Begin { program, args } => tally_of_begin(desk.begin(program, args)),

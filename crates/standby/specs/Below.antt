@@ -1,6 +1,6 @@
 -- The words of other crates that this crate's definitions and contracts speak with, each from its own place. Declares nothing.
 pub use Rattle.call_status.specs.Call.{Call, call, Given, given}
-pub use Rattle.call_status.specs.Faults.{FaultsBy, ReadFaultsBy}
+pub use Rattle.call_status.specs.Faults.{FaultsBy, RoomEnds, RoomReads}
 pub use Rattle.call_status.specs.Opening.{IsFaultAt, IsOfStart, TellsStore}
 pub use Rattle.call_status.specs.Printed.{PrintsBy}
 pub use Rattle.call_status.specs.Statuses.{IsOfOpening}

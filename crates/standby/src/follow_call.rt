@@ -1,6 +1,5 @@
 // A ship text that a store follows.
-ghost use Rattle.std.specs.Prelude.{[]};
-ghost use Rattle.standby.specs.Below.{call, Elapses, given, OnlyAsks, ReadFaultsBy};
+ghost use Rattle.standby.specs.Below.{Elapses, given, OnlyAsks, RoomReads};
 ghost use Rattle.standby.specs.Text.{IsShip, content_of};
 ghost use Rattle.standby.specs.FollowCalled.{EndsFollowing, FollowedFrom, GivesShip, IsOfFollow, IsRefusal, OnStore};
 
@@ -25,9 +24,8 @@ pub fn follow_source<S: Source, W: Outside>(
     source: &mut S,
     outside: &mut W,
 ) -> Status
-    ensures followed { FollowedFrom W.Outside (given S.Source source.old source.new) (call outside.old outside.new [] result) }
-    ensures faults { ReadFaultsBy W.Outside (given S.Source source.old source.new) outside.old outside.new result }
-    ensures only { IsOfFollow result }
+    ensures { RoomReads S.Source W.Outside (FollowedFrom W.Outside) IsOfFollow
+        source.old source.new outside.old outside.new result }
 {
     match ship_from(alloc, source) {
         Ok(ship) => follow_text(alloc, &ship, outside),

@@ -1,6 +1,5 @@
 // The records of a store behind a number, shipped.
-ghost use Rattle.std.specs.Prelude.{◌≡◌, []};
-ghost use Rattle.standby.specs.Below.{call, FaultsBy};
+ghost use Rattle.standby.specs.Below.{RoomEnds};
 ghost use Rattle.standby.specs.ShipCalled.{IsOfShip, ShippedFrom};
 
 use super::shipping::{Shipped, ship};
@@ -11,9 +10,7 @@ use store::Durable;
 
 /// Prints the records that the disk's store keeps after a number, as a ship text (docs/FORMATS.md, "Ship text").
 pub fn ship_store<W: Outside>(alloc: Global, from: u64, outside: &mut W) -> Status
-    ensures shipped { ShippedFrom W.Outside from (call outside.old outside.new [] result) }
-    ensures faults { FaultsBy W.Outside outside.old outside.new result }
-    ensures only { IsOfShip result }
+    ensures { RoomEnds W.Outside (ShippedFrom W.Outside from) IsOfShip outside.old outside.new result }
 {
     let store = match Durable::open(alloc, outside) {
         Ok(store) => store,

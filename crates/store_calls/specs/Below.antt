@@ -2,7 +2,7 @@
 pub use Rattle.std.specs.List.{flat_map, starts_with}
 pub use Rattle.std.specs.Option.{ForSome, option_map}
 pub use Rattle.call_status.specs.Call.{Call, call, Given, given}
-pub use Rattle.call_status.specs.Faults.{FaultsBy, ReadFaultsBy}
+pub use Rattle.call_status.specs.Faults.{DoneIfCalm, FaultsBy, RoomEnds, RoomReads}
 pub use Rattle.call_status.specs.Opening.{IsFaultAt, IsStanding}
 pub use Rattle.call_status.specs.Printed.{PrintsBy, put_of, PutsOnce}
 pub use Rattle.call_status.specs.SourceText.{HasRead, IsAll, IsWholeBundle}

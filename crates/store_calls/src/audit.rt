@@ -1,6 +1,6 @@
 // The audit of a finished run.
-ghost use Rattle.std.specs.Prelude.{◌≡◌, ◌⊎◌, ◌≤◌, ◌<◌, ℕ, [], length, MatchResult};
-ghost use Rattle.store_calls.specs.Below.{call, given, ReadFaultsBy, Rose};
+ghost use Rattle.std.specs.Prelude.{◌≡◌, ◌≤◌, ◌<◌, ℕ, length, MatchResult};
+ghost use Rattle.store_calls.specs.Below.{DoneIfCalm, RoomReads};
 ghost use Rattle.store_calls.specs.New.{EndsAs, PutsIn};
 ghost use Rattle.store_calls.specs.Audited.{Audited, AuditedBy, CanAudit, IsChecked, IsOfAudit, IsUnchecked, verdict_line};
 
@@ -23,10 +23,10 @@ pub struct Audit {
 
 /// Audits the bundle of a source, and prints its verdict.
 pub fn audit_source<S: Source, W: Outside>(alloc: Global, source: &mut S, outside: &mut W) -> Status
-    ensures audited { Audited W.Outside (given S.Source source.old source.new) (call outside.old outside.new [] result) }
-    ensures only { IsOfAudit result }
-    ensures faults { ReadFaultsBy W.Outside (given S.Source source.old source.new) outside.old outside.new result }
-    ensures complete { CanAudit (S.left source.old) → (¬ (Rose (S.faults source.old) (S.faults source.new))) → (¬ (Rose (W.put_faults outside.old) (W.put_faults outside.new))) → (result ≡ Status.Done) ⊎ (result ≡ Status.NoMemory) }
+    ensures ends { RoomReads S.Source W.Outside (Audited W.Outside) IsOfAudit
+        source.old source.new outside.old outside.new result }
+    ensures complete { CanAudit (S.left source.old)
+        → DoneIfCalm S.Source W.Outside source.old source.new outside.old outside.new result }
 {
     match read_text(alloc, source, MOST_OF_BUNDLE) {
         Ok(text) => audit_text(alloc, &text, outside),

@@ -1,6 +1,6 @@
 // A store that is made.
-ghost use Rattle.std.specs.Prelude.{◌≡◌, ◌++◌, [], codes, decimal, length};
-ghost use Rattle.store_calls.specs.Below.{call, FaultsBy};
+ghost use Rattle.std.specs.Prelude.{◌≡◌, ◌++◌, codes, decimal};
+ghost use Rattle.store_calls.specs.Below.{RoomEnds};
 ghost use Rattle.store_calls.specs.New.{IsOfNew, Made};
 
 use super::written::{ask_empty, write_store};
@@ -12,9 +12,7 @@ use text_line::TextLine;
 
 /// Makes a store with nothing in it but this header on an empty disk, and prints how many bytes it has.
 pub fn make_store<W: Outside>(alloc: Global, header: &Header, outside: &mut W) -> Status
-    ensures made { Made W.Outside header.now (call outside.old outside.new [] result) }
-    ensures faults { FaultsBy W.Outside outside.old outside.new result }
-    ensures only { IsOfNew result }
+    ensures { RoomEnds W.Outside (Made W.Outside header.now) IsOfNew outside.old outside.new result }
 {
     if let Err(status) = ask_empty(outside) {
         return status;

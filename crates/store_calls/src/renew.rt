@@ -1,6 +1,6 @@
 // A store of version 1 that is made one of version 2.
 ghost use Rattle.std.specs.Prelude.{◌≡◌, ◌≢◌, ◌≤◌, ◌++◌, [], length, sum_by, IfOk, IfErr, MatchResult, OnOk};
-ghost use Rattle.store_calls.specs.Below.{bytes_of, call, flat_of, given, ReadFaultsBy, Two};
+ghost use Rattle.store_calls.specs.Below.{bytes_of, flat_of, given, RoomReads, Two};
 ghost use Rattle.store_calls.specs.Renewed.{HasOne, IsNoOne, IsOfRenew, Renewed, renew_line, renewed_image, widened_bytes, widened_segments};
 
 use super::kept::{KeptFault, kept_image};
@@ -28,9 +28,8 @@ pub fn renew_store<S: Source, W: Outside>(
 ) -> Status
     requires least { 4096 ≤ bank_bytes }
     requires most { bank_bytes ≤ 131072 }
-    ensures renewed { Renewed W.Outside bank_bytes (given S.Source source.old source.new) (call outside.old outside.new [] result) }
-    ensures faults { ReadFaultsBy W.Outside (given S.Source source.old source.new) outside.old outside.new result }
-    ensures only { IsOfRenew result }
+    ensures { RoomReads S.Source W.Outside (Renewed W.Outside bank_bytes) IsOfRenew
+        source.old source.new outside.old outside.new result }
 {
     let old = match old_store(alloc, source) {
         Err(status) => return status,

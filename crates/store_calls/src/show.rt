@@ -1,6 +1,6 @@
 // Bytes of a store, printed.
-ghost use Rattle.std.specs.Prelude.{◌≡◌, ◌+◌, ◌%◌, ◌^◌, ◌≤◌, ◌<◌, [], find, length, None, MatchOption};
-ghost use Rattle.store_calls.specs.Below.{byte_count, call, FaultsBy, is_named, IsUsable, length_of, page_bytes, start_of, total};
+ghost use Rattle.std.specs.Prelude.{◌≡◌, ◌+◌, ◌%◌, ◌^◌, ◌≤◌, ◌<◌, find, length, None, MatchOption};
+ghost use Rattle.store_calls.specs.Below.{byte_count, is_named, IsUsable, length_of, page_bytes, RoomEnds, start_of, total};
 ghost use Rattle.store_calls.specs.Show.{CanRead, HasRead, IsInside, IsOfShow, PutsBytes, RangeShown, ReadsPart};
 
 use call_status::Status;
@@ -27,9 +27,7 @@ pub struct Range {
 
 /// Prints bytes of the store that the disk holds, in rows of sixteen, each by one put.
 pub fn show_range<W: Outside>(alloc: Global, range: Range, outside: &mut W) -> Status
-    ensures shown { RangeShown W.Outside range (call outside.old outside.new [] result) }
-    ensures faults { FaultsBy W.Outside outside.old outside.new result }
-    ensures only { IsOfShow result }
+    ensures { RoomEnds W.Outside (RangeShown W.Outside range) IsOfShow outside.old outside.new result }
 {
     let store = match Durable::open(alloc, outside) {
         Ok(store) => store,

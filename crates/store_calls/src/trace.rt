@@ -1,6 +1,6 @@
 // The trace of an activation in a finished run.
-ghost use Rattle.std.specs.Prelude.{◌≡◌, ◌⊎◌, ◌+◌, ◌≤◌, [], length, MatchResult};
-ghost use Rattle.store_calls.specs.Below.{call, flat_map, given, ReadFaultsBy, Rose};
+ghost use Rattle.std.specs.Prelude.{◌≡◌, ◌+◌, ◌≤◌, length, MatchResult};
+ghost use Rattle.store_calls.specs.Below.{DoneIfCalm, flat_map, RoomReads};
 ghost use Rattle.store_calls.specs.New.{EndsAs, PutsIn};
 ghost use Rattle.store_calls.specs.Traced.{CanTrace, IsOfTrace, IsTraced, IsUntraced, TracedBy, TracedFrom, status_of_trace, steps_line, touch_line, trace_lines};
 
@@ -18,10 +18,10 @@ pub fn trace_source<S: Source, W: Outside>(
     activation: u32,
     outside: &mut W,
 ) -> Status
-    ensures traced { TracedFrom W.Outside activation (given S.Source source.old source.new) (call outside.old outside.new [] result) }
-    ensures only { IsOfTrace result }
-    ensures faults { ReadFaultsBy W.Outside (given S.Source source.old source.new) outside.old outside.new result }
-    ensures complete { CanTrace activation (S.left source.old) → (¬ (Rose (S.faults source.old) (S.faults source.new))) → (¬ (Rose (W.put_faults outside.old) (W.put_faults outside.new))) → (result ≡ Status.Done) ⊎ (result ≡ Status.NoMemory) }
+    ensures ends { RoomReads S.Source W.Outside (TracedFrom W.Outside activation) IsOfTrace
+        source.old source.new outside.old outside.new result }
+    ensures complete { CanTrace activation (S.left source.old)
+        → DoneIfCalm S.Source W.Outside source.old source.new outside.old outside.new result }
 {
     match read_text(alloc, source, MOST_OF_BUNDLE) {
         Ok(text) => trace_text(alloc, &text, activation, outside),

@@ -4,16 +4,16 @@ pub use Rattle.activations.specs.Kept.{AreRowsWithin}
 pub use Rattle.activations.specs.Stages.{IfChecked, IfJournal, IfLimit, IfVictim}
 pub use Rattle.activations.specs.Turning.{commit_call, IfWaits, IsAtCommit, tally_counts}
 pub use Rattle.activations.specs.declared.tally.Tally.{Tally}
-pub use Rattle.desk.specs.Answers.{begun_told, counts_told, ending_told, HasNumbers, IsReopened, order_told, reopened_closes, reopened_told, stored_closes, stored_told, StoredNumber, turn_told}
-pub use Rattle.desk.specs.Calls.{CallsStore, FailsCounted, Fixed, reopened_fails, StaysShut, stored_fails}
+pub use Rattle.desk.specs.Answers.{counts_told, ending_told, HasNumbers, order_told, StoredNumber}
+pub use Rattle.desk.specs.Calls.{FailsCounted, Fixed}
 pub use Rattle.desk.specs.Crash.{fine_step, IsEitherOf, standing_of, View}
 pub use Rattle.desk.specs.Desk.{Desk, ended, Entry, opened, with_entry}
 pub use Rattle.desk.specs.Holdings.{numbers, waits_for}
 pub use Rattle.desk.specs.Instruction.{breaks_cycles, commits, Contested, Counts, Doubt, Fine, Idle, Limit, no_counts, ordered, Over, turn, Turning, Word}
-pub use Rattle.desk.specs.Kept.{HoldsStore, IsDamage, journal_in, JournalAfter, turn_fails, writes_due, WritesMore}
+pub use Rattle.desk.specs.Kept.{HoldsStore, journal_in, JournalAfter, turn_fails, writes_due, WritesMore}
 pub use Rattle.desk.specs.Report.{number_after}
-pub use Rattle.desk.specs.Run.{absent_segment, run, step, Turned}
-pub use Rattle.desk.specs.Told.{seen, Takes, TellsDesk, Told, ToldAfterEnd}
+pub use Rattle.desk.specs.Run.{absent_segment, run, Turned}
+pub use Rattle.desk.specs.Told.{HasBegun, HasCrashed, HasStored, HasTurned, OfShown, seen, TellsDesk, Told, ToldAfterEnd}
 pub use Rattle.desk.specs.declared.answers.TurnEnd.{TurnEnd}
 pub use Rattle.desk_law.specs.Beside.{over_all, Reads}
 pub use Rattle.flat_machine.specs.declared.machine.Program.{Program}

@@ -1,6 +1,6 @@
 -- Why the answers of a session come.
-use Rattle.std.specs.Prelude.{◌≡◌, ◌↔◌, ℕ, ◌+◌, ◌%◌, ◌<◌, ◌≤◌, ◌^◌, true, false, Bool, List, length, Option, Some, None}
-use Rattle.supervisor.specs.Below.{absent_segment, Activity, CallsStore, counts_told, FailsCounted, Ghosts, has, Header, held_of, IfChecked, IfJournal, IfLimit, IfVictim, IfWaits, KeptStore, Leaves, most_lines, no_counts, number_in, number_of, OnlyAsks, OnlyWrites, program_at, Rose, seat_of, Tally, TracksStore, TurnEnd, with_begun, WritesMore}
+use Rattle.std.specs.Prelude.{◌≡◌, ◌≢◌, ◌↔◌, ℕ, ◌+◌, ◌%◌, ◌<◌, ◌≤◌, ◌^◌, true, false, List, length, Option, Some, None, IsSome}
+use Rattle.supervisor.specs.Below.{absent_segment, Activity, counts_told, Desk, Ghosts, has, held_of, IfChecked, IfJournal, IfLimit, IfVictim, IfWaits, KeptStore, Leaves, most_lines, no_counts, number_in, number_of, OnlyAsks, OnlyWrites, program_at, Rose, seat_of, Tally, TracksStore, TurnEnd, with_begun}
 use Rattle.store_format.specs.Bank.{RecordLine}
 use Rattle.store.specs.declared.keep.Kept.{Kept}
 use Rattle.store.specs.declared.keep.Kept.TheVariants as kept
@@ -16,7 +16,8 @@ use Rattle.desk.specs.declared.answers.Turn.{Turn}
 use Rattle.desk.specs.declared.answers.TurnEnd.TheVariants as end
 use Rattle.activations.specs.Recorded.{IsRecordOf}
 use Rattle.supervisor.specs.declared.session.Session.{Session}
-use Rattle.supervisor.specs.Session.{activity, store_told}
+use Rattle.supervisor.specs.Session.{activity, session_told, store_told}
+use Rattle.supervisor.specs.Shown.{ShowsDesk}
 
 -- sixteen are active
 abbrev pub IsFull : Activity → Type 0
@@ -35,6 +36,10 @@ pub record IsBeginAnswer (a : Activity) (program : ℕ) (answer : Begun) : Type 
   pub busy : (number : ℕ) → (answer ≡ begun.Busy number) ↔ (IsFull a × (number ≡ a.next))
   pub no_segment : (number segment : ℕ) → (answer ≡ begun.NoSegment number segment) ↔ (HasPlace a × (lacking a program ≡ Some segment) × (number ≡ a.next))
   pub started : (number : ℕ) → (answer ≡ begun.Started number) ↔ (HasPlace a × (lacking a program ≡ None) × (number ≡ a.next))
+
+-- a session that is open gives it so
+abbrev pub AnswersBegin : Session → (program : ℕ) → Begun → Type 0
+AnswersBegin s program answer = (session_told s).closed ≡ false → IsBeginAnswer (activity s) program answer
 
 -- The number that a commit tells is the one after the store's; where it is in doubt, it is that of this activation.
 abbrev pub TellsNumber : (activation number : ℕ) → TurnEnd → Type 0
@@ -72,6 +77,10 @@ abbrev pub ReopenedNumber : Reopened → (number : ℕ) → Type 0
 ReopenedNumber (reopened.Number told) number = told ≡ number
 ReopenedNumber _ number = Unit {0}
 
+-- bytes over which a session shows a desk aren't found damaged
+abbrev pub NeverDamaged : {W : Type 0} → Ghosts W → Session → W → Reopened → Type 0
+NeverDamaged G s outside answer = (desk : Desk) (offset : ℕ) → IsSome (G.held outside) → ShowsDesk s (held_of G outside) desk → answer ≢ reopened.Damaged offset
+
 -- What `Durable::commit` promises of a store with a begun record where it answers so, Unwritten or Doubt: the disk's count rose in it.
 pub record IsFailedCommit {W : Type 0} (G : Ghosts W) (answer : Kept) (old new : KeptStore) (before after : W) : Type 0 where
   pub only : OnlyWrites G before after
@@ -106,9 +115,6 @@ LeavesStore G activation (end.Closed (Some doubted) told) store new before after
 LeavesStore G activation (end.Closed None told) store new before after = ClosesInCommit G activation kept.Unwritten store new before after
 LeavesStore G activation _ store new before after = store_told new ≡ store
 
--- A call uses the disk of a store with this header: so many writes at least are counted, the count of faults rises where it fails and nowhere else, and
--- told bytes stay told and enough for the store.
-pub record UsesDisk {W : Type 0} (G : Ghosts W) (header : Header) (writes : ℕ) (fails : Bool) (before after : W) : Type 0 where
-  pub writes_more : WritesMore (G.writes before) (G.writes after) writes
-  pub failed : FailsCounted fails (G.disk_faults before) (G.disk_faults after)
-  pub calls : CallsStore G header before after
+-- the same of its answer
+abbrev pub TurnLeaves : {W : Type 0} → Ghosts W → (activation : ℕ) → Turn → (old new : Session) → W → W → Type 0
+TurnLeaves G activation answer old new before after = LeavesStore G activation answer.end (store_told old) new before after

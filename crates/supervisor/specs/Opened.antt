@@ -1,6 +1,6 @@
 -- A session that has just opened on the store of a disk.
-use Rattle.std.specs.Prelude.{◌≡◌, ℕ, List, [], false, take}
-use Rattle.supervisor.specs.Below.{FlatStore, Ghosts, Header, header_of, held_of, IsSure, most_lines, opened, Program, Stands, stands}
+use Rattle.std.specs.Prelude.{◌≡◌, ℕ, List, [], false, take, IsSome, IsTrue}
+use Rattle.supervisor.specs.Below.{FlatStore, Ghosts, Header, header_of, held_of, HoldsStore, IsSure, most_lines, opened, Program, Stands, stands}
 use Rattle.supervisor.specs.declared.session.Session.{Session}
 use Rattle.supervisor.specs.Session.{IsSound, activity, fixed_of, header_of_session, order_of, session_told}
 use Rattle.supervisor.specs.Shown.{ShowsDesk}
@@ -28,3 +28,10 @@ pub record IsSessionOpened {W : Type 0} (G : Ghosts W) (frames : ℕ) (old new :
   pub stood : stands (held_of G old) ≡ Stands (fixed_of s).opened store
   pub header : header_of (take 128 (held_of G old)) ≡ header_of_session s
   pub shows : ShowsDesk s (held_of G new) (opened frames 16 (most_lines (header_of_session s)) store)
+
+-- what an opening makes of a session: it is new, the bytes that are told are enough for its store and stood for one, and those of an honest disk open it
+pub record IsMadeOver {W : Type 0} (G : Ghosts W) (programs : List Program) (frames begins : ℕ) (before after : W) (s : Session) : Type 0 where
+  pub new : IsNew programs begins s
+  pub room : HoldsStore G (header_of_session s) after
+  pub opened : IsTrue (G.is_honest before) → IsSome (G.held before) → IsSessionOpened G frames before after s
+  pub told : IsSome (G.held before) → HasStood (header_of_session s) (held_of G before)

@@ -1,11 +1,12 @@
--- What a commit of a session did: its step of the desk, and what the disk held at each moment.
-use Rattle.std.specs.Prelude.{◌≡◌, ℕ, ◌⊎◌, true, false, List, slice_set}
+-- What a commit and a turn of a session did: the step of the desk, and what the disk held at each moment.
+use Rattle.std.specs.Prelude.{◌≡◌, ◌↔◌, ℕ, ◌+◌, ◌≤◌, ◌⊎◌, true, false, List, None, slice_set}
 use Rattle.flat_machine.specs.declared.machine.Plain.{Plain}
-use Rattle.supervisor.specs.Below.{commit_call, commits, Desk, Doubt, ended, ending_told, Fine, fine_step, Ghosts, HasNumbers, held_of, IsAtCommit, IsEitherOf, IsSure, journal_in, JournalAfter, Leaves, number_after, number_in, ordered, Over, Reads, Rose, standing_of, stands, Tally, tally_counts, turn, Turned, TurnEnd, Turning, Word}
+use Rattle.supervisor.specs.Below.{commit_call, commits, Desk, Doubt, ended, ending_told, FailsCounted, Fine, fine_step, Ghosts, HasNumbers, held_of, IfJournal, IsAtCommit, IsEitherOf, IsSure, journal_in, JournalAfter, Leaves, most_lines, number_after, number_in, number_of, OnlyWrites, ordered, Over, Reads, Rose, seat_of, standing_of, stands, Tally, tally_counts, ToldAfterEnd, turn, turn_fails, Turned, TurnEnd, Turning, Word, writes_due, WritesMore}
 use Rattle.desk.specs.declared.answers.TurnEnd.TheVariants as end
 use Rattle.desk.specs.declared.event.Event.TheVariants as event
 use Rattle.supervisor.specs.declared.session.Session.{Session}
-use Rattle.supervisor.specs.Session.{activity, order_of, session_desk}
+use Rattle.supervisor.specs.Causes.{answer_of, IsTurnEnd, LeavesStore, TellsNumber}
+use Rattle.supervisor.specs.Session.{IsSound, activity, order_of, session_desk, session_told}
 use Rattle.supervisor.specs.Shown.{IsOpenOver}
 
 -- how a commit call ends: it is done, too long for a record, or the desk closes
@@ -69,3 +70,34 @@ pub record TurnHasRun {W : Type 0} (G : Ghosts W) (activation limit : ℕ) (end 
   pub still : new.closed ≡ false → IsSure G after × ((over : IsOpenOver new (held_of G after)) × (next ≡ session_desk new over.committed))
   pub crash : Leaves G (λ image seen. IsEitherOf (activity old).programs old.opened (event.Turn activation limit) (session_desk old committed) next image) before after
   pub doubt : word ≡ Doubt → new.closed ≡ true → ((fine_step (activity old).programs (event.Turn activation limit) (session_desk old committed)).order ≡ next.order) × ((gate : ℕ) × Leaves G (λ image seen. stands (slice_set image gate 165) ≡ standing_of old.opened (fine_step (activity old).programs (event.Turn activation limit) (session_desk old committed))) after after)
+
+-- how the commit call of who sits in a seat ended, what was counted, and what the answer tells of the store and of the disk
+pub record EndsCommit {W : Type 0} (G : Ghosts W) (seat : ℕ) (how : TurnEnd) (old : Session) (tallied counted : Tally) (before after : W) : Type 0 where
+  pub only : OnlyWrites G before after
+  pub end : IsCommitEnd how
+  pub ran : counted.ran ≤ tallied.ran + 1
+  pub journal : IfJournal (most_lines old.store.header) how
+  pub numbered : TellsNumber (number_in (activity old).seating seat) (number_of old.store) how
+  pub failed : FailsCounted (turn_fails how) (G.disk_faults before) (G.disk_faults after)
+
+-- and what it did with the session
+pub record HasCommitCall {W : Type 0} (G : Ghosts W) (seat : ℕ) (how : TurnEnd) (old new : Session) (tallied counted : Tally) (before after : W) : Type 0 where
+  pub ends : EndsCommit G seat how old tallied counted before after
+  pub sound : IsSound new
+  pub writes : WritesMore (G.writes before) (G.writes after) (writes_due how)
+  pub told : ToldAfterEnd (number_in (activity old).seating seat) how (session_told old) (session_told new)
+  pub stored : LeavesStore G (number_in (activity old).seating seat) how old.store new before after
+  pub went : CommitsAt G seat how old new tallied counted before after
+
+-- What a turn of an activation did: the cause of its end, what is told of it, what becomes of the store, and, from sure bytes, `TurnHasRun`.
+pub record HasTurnEnd {W : Type 0} (G : Ghosts W) (activation limit : ℕ) (how : TurnEnd) (old new : Session) (counted : Tally) (before after : W) : Type 0 where
+  pub sound : IsSound new
+  pub only : OnlyWrites G before after
+  pub writes : WritesMore (G.writes before) (G.writes after) (writes_due how)
+  pub turned : IsTurned how
+  pub idle : (how ≡ end.Idle) ↔ (seat_of (activity old).seating activation ≡ None)
+  pub ends : IsTurnEnd activation limit (most_lines old.store.header) (number_of old.store) (answer_of counted how)
+  pub told : ToldAfterEnd activation how (session_told old) (session_told new)
+  pub stored : LeavesStore G activation how old.store new before after
+  pub failed : FailsCounted (turn_fails how) (G.disk_faults before) (G.disk_faults after)
+  pub went : IsSure G before → (over : IsOpenOver old (held_of G before)) → TurnHasRun G activation limit how old new counted before after over.committed

@@ -1,7 +1,6 @@
 // The calls of a session: what each does, and why each answer comes.
-ghost use Rattle.std.specs.Prelude.{◌≡◌, ◌≢◌, ◌+◌, ◌≤◌, ◌<◌, ◌^◌, false, List, ℕ, length, map, IsSome};
-ghost use Rattle.supervisor.specs.Below.{begun_told, Desk, FailsCounted, Fine, HasNumbers, held_of, HoldsStore, IsDamage, IsReopened, number_after, numbers, OnlyAsks, reopened_closes, reopened_fails, reopened_told, StaysShut, step, stored_closes, stored_fails, stored_told, StoredNumber, Takes, ToldAfterEnd, turn_fails, turn_told, writes_due};
-ghost use Rattle.desk.specs.declared.event.Event.TheVariants as event;
+ghost use Rattle.std.specs.Prelude.{◌≡◌, ◌≤◌, ◌<◌, ◌^◌, ℕ, length, map};
+ghost use Rattle.supervisor.specs.Below.{HasBegun, HasCrashed, HasStored, HasTurned, HoldsStore, number_after, numbers, OfShown, StoredNumber};
 ghost use Rattle.supervisor.specs.Causes.{answer_of};
 
 use super::session::Session;
@@ -25,9 +24,9 @@ fn told(tally: Tally, end: TurnEnd) -> Turn
 }
 
 impl Session {
-    ghost use Rattle.supervisor.specs.Session.{IsSound, activity, order_of, records_told, fixed_of, session_told, number_told, store_told};
-    ghost use Rattle.supervisor.specs.Shown.{ShowsDesk, view_of};
-    ghost use Rattle.supervisor.specs.Causes.{IsBeginAnswer, IsTurnAnswer, ReopenedNumber, LeavesStore, UsesDisk};
+    ghost use Rattle.supervisor.specs.Session.{IsSound, activity, order_of, records_told, fixed_of, session_told, number_told};
+    ghost use Rattle.supervisor.specs.Shown.{ShowsDesk};
+    ghost use Rattle.supervisor.specs.Causes.{AnswersBegin, IsTurnAnswer, NeverDamaged, ReopenedNumber, TurnLeaves};
     ghost use Rattle.seats.specs.Seating.{numbers as numbers_seated};
 
     /// The program with this place begins with four values.
@@ -35,12 +34,8 @@ impl Session {
         requires sound { IsSound self.old }
         requires program { program < length (fixed_of self.old).programs }
         requires room { (session_told self.old).given < (fixed_of self.old).begins }
-        ensures did { (held : List ℕ) (desk : Desk) → ShowsDesk self.old held desk → (next : Desk) × (step (fixed_of self.old).programs (event.Begin program args) Fine desk ≡ record { desk = next; happening = begun_told program result }) × ShowsDesk self.new held next }
-        ensures shut { StaysShut (session_told self.old).closed (result ≡ Begun.Shut) (self.new ≡ self.old) }
-        ensures told { session_told self.new ≡ record (session_told self.old) { given = (session_told self.new).given } }
-        ensures given { (session_told self.new).given ≤ (session_told self.old).given + 1 }
-        ensures answer { (session_told self.old).closed ≡ false → IsBeginAnswer (activity self.old) program result }
-        ensures sound { IsSound self.new }
+        ensures begun { HasBegun ShowsDesk session_told IsSound program args self.old self.new result }
+        ensures answer { AnswersBegin self.old program result }
     {
         if self.closed {
             return Begun::Shut;
@@ -56,14 +51,10 @@ impl Session {
         requires limit { limit ≤ 1000000 }
         requires turns { (session_told self.old).turns < 2 ^ 32 }
         requires bytes { HoldsStore W.Outside (fixed_of self.old).header outside.old }
-        ensures did { Takes W.Outside (event.Turn activation limit) (λ desk. turn_told activation result (session_told self.new).printed) (HasNumbers result.end activation) (fixed_of self.old) (ShowsDesk self.old) (view_of self.new) outside.old outside.new }
-        ensures shut { StaysShut (session_told self.old).closed (result.end ≡ TurnEnd.Shut) ((self.new ≡ self.old) × (outside.new ≡ outside.old)) }
-        ensures told { ToldAfterEnd activation result.end (record (session_told self.old) { turns = (session_told self.new).turns }) (session_told self.new) }
-        ensures turns { (session_told self.new).turns ≤ (session_told self.old).turns + 1 }
+        ensures turned { HasTurned ShowsDesk session_told IsSound W.Outside activation limit
+            self.old self.new outside.old outside.new result }
         ensures answer { IsTurnAnswer self.old activation limit result }
-        ensures stored { LeavesStore W.Outside activation result.end (store_told self.old) self.new outside.old outside.new }
-        ensures disk { UsesDisk W.Outside (fixed_of self.new).header (writes_due result.end) (turn_fails result.end) outside.old outside.new }
-        ensures sound { IsSound self.new }
+        ensures stored { TurnLeaves W.Outside activation result self.old self.new outside.old outside.new }
     {
         let mut tally = Tally::new();
         if self.closed {
@@ -78,13 +69,10 @@ impl Session {
     pub fn checkpoint<W: Outside>(&mut self, outside: &mut W) -> Stored
         requires sound { IsSound self.old }
         requires bytes { HoldsStore W.Outside (fixed_of self.old).header outside.old }
-        ensures did { Takes W.Outside event.Checkpoint (λ desk. stored_told result) (StoredNumber result) (fixed_of self.old) (ShowsDesk self.old) (view_of self.new) outside.old outside.new }
-        ensures shut { StaysShut (session_told self.old).closed (result ≡ Stored.Shut) ((self.new ≡ self.old) × (outside.new ≡ outside.old)) }
-        ensures told { session_told self.new ≡ record (session_told self.old) { closed = stored_closes result } }
+        ensures stored { HasStored ShowsDesk session_told IsSound W.Outside
+            self.old self.new outside.old outside.new result }
         ensures number { StoredNumber result (number_told self.old) }
         ensures emptied { (number : ℕ) → result ≡ Stored.Number number → records_told self.new ≡ 0 }
-        ensures disk { UsesDisk W.Outside (fixed_of self.new).header 0 (stored_fails result) outside.old outside.new }
-        ensures sound { IsSound self.new }
     {
         if self.closed {
             return Stored::Shut;
@@ -102,15 +90,10 @@ impl Session {
     pub fn forget<W: Outside>(&mut self, outside: &mut W) -> Reopened
         requires sound { IsSound self.old }
         requires bytes { HoldsStore W.Outside (fixed_of self.old).header outside.old }
-        ensures did { Takes W.Outside event.Crash (λ desk. reopened_told (numbers desk) result) (IsReopened result) (fixed_of self.old) (ShowsDesk self.old) (view_of self.new) outside.old outside.new }
-        ensures shut { StaysShut (session_told self.old).closed (result ≡ Reopened.Shut) ((self.new ≡ self.old) × (outside.new ≡ outside.old)) }
-        ensures told { session_told self.new ≡ record (session_told self.old) { closed = reopened_closes result } }
+        ensures crashed { HasCrashed ShowsDesk session_told IsSound W.Outside
+            self.old self.new outside.old outside.new result }
         ensures number { ReopenedNumber result (number_told self.new) }
-        ensures failed { FailsCounted (reopened_fails result) (W.disk_faults outside.old) (W.disk_faults outside.new) }
-        ensures damage { IsDamage W.Outside (fixed_of self.old).header outside.old result }
-        ensures undamaged { (desk : Desk) (offset : ℕ) → IsSome (W.held outside.old) → ShowsDesk self.old (held_of W.Outside outside.old) desk → result ≢ Reopened.Damaged offset }
-        ensures asks { OnlyAsks W.Outside outside.old outside.new }
-        ensures sound { IsSound self.new }
+        ensures undamaged { NeverDamaged W.Outside self.old outside.old result }
     {
         if self.closed {
             return Reopened::Shut;
@@ -134,7 +117,7 @@ impl Session {
     pub fn number(&self) -> u64
         requires { IsSound self.now }
         ensures number { result ≡ number_told self.now }
-        ensures shown { (held : List ℕ) (desk : Desk) → ShowsDesk self.now held desk → result ≡ number_after (fixed_of self.now).opened desk }
+        ensures shown { OfShown (ShowsDesk self.now) (λ it. result ≡ number_after (fixed_of self.now).opened it) }
     {
         self.store.number()
     }
@@ -143,7 +126,7 @@ impl Session {
     pub fn active(&self) -> ArrayVec<u32, 16>
         requires { IsSound self.now }
         ensures active { result.items ≡ numbers_seated (activity self.now).seating }
-        ensures shown { (held : List ℕ) (desk : Desk) → ShowsDesk self.now held desk → result.items ≡ numbers desk }
+        ensures shown { OfShown (ShowsDesk self.now) (λ desk. result.items ≡ numbers desk) }
     {
         self.activations.active()
     }

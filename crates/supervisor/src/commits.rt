@@ -1,6 +1,6 @@
 // The commit call of who sits in a seat.
 ghost use Rattle.std.specs.Prelude.{◌≡◌, ◌+◌, ◌<◌, ◌≤◌, ◌++◌, ◌∷◌, [], true, false, vec_len, vec_capacity};
-ghost use Rattle.supervisor.specs.Below.{FailsCounted, has, HoldsStore, number_in, OnlyWrites, sitter, ToldAfterEnd, turn_fails, writes_due, WritesMore};
+ghost use Rattle.supervisor.specs.Below.{has, HoldsStore, number_in, sitter};
 
 use super::session::Session;
 use activations::Tally;
@@ -9,10 +9,8 @@ use outside::Outside;
 use store::Kept;
 
 impl Session {
-    ghost use Rattle.supervisor.specs.Below.{IfJournal, most_lines, number_of};
-    ghost use Rattle.supervisor.specs.Session.{IsSound, activity, session_told};
-    ghost use Rattle.supervisor.specs.Causes.{TellsNumber, LeavesStore};
-    ghost use Rattle.supervisor.specs.Went.{CommitsAt, IsCommitEnd};
+    ghost use Rattle.supervisor.specs.Session.{IsSound, activity};
+    ghost use Rattle.supervisor.specs.Went.{HasCommitCall};
 
     /// The commit call of who sits in a seat: his record, and the end of the turn.
     pub(super) fn commit<W: Outside>(
@@ -26,17 +24,8 @@ impl Session {
         requires tally { tally.old.ran ≤ 1000000 }
         requires open { self.old.closed ≡ false }
         requires bytes { HoldsStore W.Outside self.old.store.header outside.old }
-        ensures sound { IsSound self.new }
-        ensures only { OnlyWrites W.Outside outside.old outside.new }
-        ensures writes { WritesMore (W.writes outside.old) (W.writes outside.new) (writes_due result) }
-        ensures end { IsCommitEnd result }
-        ensures ran { tally.new.ran ≤ tally.old.ran + 1 }
-        ensures journal { IfJournal (most_lines self.old.store.header) result }
-        ensures numbered { TellsNumber (number_in (activity self.old).seating seat) (number_of self.old.store) result }
-        ensures told { ToldAfterEnd (number_in (activity self.old).seating seat) result (session_told self.old) (session_told self.new) }
-        ensures stored { LeavesStore W.Outside (number_in (activity self.old).seating seat) result self.old.store self.new outside.old outside.new }
-        ensures failed { FailsCounted (turn_fails result) (W.disk_faults outside.old) (W.disk_faults outside.new) }
-        ensures went { CommitsAt W.Outside seat result self.old self.new tally.old tally.new outside.old outside.new }
+        ensures { HasCommitCall W.Outside seat result self.old self.new
+            tally.old tally.new outside.old outside.new }
     {
         if let Err(end) = self.activations.record(seat, &mut self.store) {
             self.activations.sound();

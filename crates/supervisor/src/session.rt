@@ -1,6 +1,6 @@
 // A session over a store that is open.
-ghost use Rattle.std.specs.Prelude.{◌≡◌, ◌≢◌, ◌≤◌, ◌<◌, ◌^◌, ◌-◌, IfOk, IfErr, OnOk, IsSome, IsTrue};
-ghost use Rattle.supervisor.specs.Below.{held_of, HoldsStore, OnlyAsks};
+ghost use Rattle.std.specs.Prelude.{◌≡◌, ◌≢◌, ◌≤◌, ◌<◌, ◌^◌, ◌-◌, IfOk, IfErr, OnOk};
+ghost use Rattle.supervisor.specs.Below.{OnlyAsks};
 ghost use Rattle.store.specs.Faults.{IsStoreOpenFault};
 
 use activations::Activations;
@@ -25,8 +25,7 @@ pub struct Session {
 }
 
 impl Session {
-    ghost use Rattle.supervisor.specs.Session.{header_of_session};
-    ghost use Rattle.supervisor.specs.Opened.{IsNew, IsSessionOpened, HasStood};
+    ghost use Rattle.supervisor.specs.Opened.{IsMadeOver};
 
     /// A session over the store that the disk holds, with so many frames for its pages, for so many begins of these programs.
     /// It only asks the disk, and reads no home line.
@@ -48,10 +47,7 @@ impl Session {
         ensures unfailed { OnOk result (W.disk_faults outside.new ≡ W.disk_faults outside.old) }
         ensures fault { IfErr result (IsStoreOpenFault W.Outside outside.old outside.new) }
         ensures calm { IfErr result (λ fault. fault ≢ OpenFault.DiskFault → W.disk_faults outside.new ≡ W.disk_faults outside.old) }
-        ensures new { IfOk result (IsNew programs.items begins) }
-        ensures room { IfOk result (λ session. HoldsStore W.Outside (header_of_session session) outside.new) }
-        ensures opened { IfOk result (λ session. IsTrue (W.is_honest outside.old) → IsSome (W.held outside.old) → IsSessionOpened W.Outside frames outside.old outside.new session) }
-        ensures told { IfOk result (λ session. IsSome (W.held outside.old) → HasStood (header_of_session session) (held_of W.Outside outside.old)) }
+        ensures made { IfOk result (IsMadeOver W.Outside programs.items frames begins outside.old outside.new) }
     {
         let store = Durable::open(alloc, outside)?;
         let printed = Printed::new(alloc)?;

@@ -1,9 +1,57 @@
 use Rattle.std.proofs.lemmas.Bool.{both_ways}
-use Rattle.schedule_replay.proofs.Lemmas.{◌≡◌, [], ◌+◌, length, map, take, refl, sym, ap, ◌∙◌, arith, rules, append-nil, Ok, take_all, Fixed, Begin, is_closed, prints_broken, prints_well, answered_all, answered_none, ready_next, answered_more, answered_well, answered_broken, goes_since, shut_asked, shut_unasked, names_are, if_ok_broken, not_on_closed, nat_tests}
+use Rattle.schedule_replay.proofs.Lemmas.{common_steps, ◌≡◌, [], ◌+◌, length, map, take, refl, sym, ap, ◌∙◌, arith, rules, append-nil, Ok, take_all, Fixed, Begin, is_closed, prints_broken, prints_well, answered_all, answered_none, ready_next, answered_more, answered_well, answered_broken, goes_since, shut_asked, shut_unasked, names_are, if_ok_broken, not_on_closed, nat_tests}
 use Rattle.schedule_replay.specs.declared.events.Going.TheVariants as going
 use Rattle.schedule_replay.proofs.ReportLemmas.{tells_broken, tells_more, tells_none, tells_well}
 use Rattle.schedule_replay.proofs.RanLemmas.{ran_as, ran_further, ran_last, ran_none}
 use Rattle.schedule_replay.proofs.events.put_events.Goals as goal
+
+pub returns-in_err-going : goal.returns-in_err-going
+returns-in_err-going g c = record {
+  tells =
+      let S = g.S.Supervisor in
+      let names = map (λ name. name.items) c.args.names.now in
+      record {
+        count = c.loop-event.event-index + 1;
+        tells = tells_broken g.W.Outside names (take (c.loop-event.event-index + 1) c.args.events.now) (S.told c.args.desk.now).order (S.told c.answer.new.desk).order c.args.outside.now c.answer.new.outside c.answer.result c.from_residual.result (search rules) c.from_residual.ensures.0
+            (tells_more g.W.Outside names c.args.events.now c.loop-event.event-index (Begin 0 []) c.loop-event-test.true (S.told c.args.desk.now).order (S.told c.loop-event.desk).order (S.told c.answer.new.desk).order c.args.outside.now c.loop-event.outside c.answer.new.outside c.answer.result c.loop-event.invariant.tells c.answer.ensures.tells);
+        all = if_ok_broken c.from_residual.result _ c.from_residual.ensures.0;
+      };
+  answered = answered_all g.S.Supervisor g.W.Outside g.met.W.Outside.fewer_later c.args.events.now (c.loop-event.event-index + 1) c.args.desk.now c.answer.new.desk c.args.outside.now c.answer.new.outside c.from_residual.result
+      (answered_broken g.S.Supervisor g.W.Outside g.met.W.Outside.fewer_later _ c.args.desk.now c.answer.new.desk c.args.outside.now c.answer.new.outside c.answer.result c.from_residual.result (search rules) c.from_residual.ensures.0
+      (answered_more g.S.Supervisor g.W.Outside g.met.W.Outside.fewer_later c.args.events.now c.loop-event.event-index (Begin 0 []) c.loop-event-test.true c.args.desk.now c.loop-event.desk c.args.outside.now c.loop-event.outside c.answer.new.desk c.answer.new.outside c.answer.result c.loop-event.invariant.answered c.answer.ensures.answered));
+  goes = first_of (search rules, grind (arith, common_steps));
+  shut = first_of (search rules, grind (arith, common_steps));
+  ran =
+      λ start sure shows.
+      let now = c.loop-event.invariant in
+      let later = c.from_residual.result in
+      let broke = c.from_residual.ensures.0 in
+      ran_last g.S.Supervisor g.W.Outside g.met.W.Outside.fewer_later (map (λ name. name.items) c.args.names.now) (names_are (λ name. name.items) c.args.names.now c.requires.unbroken) c.args.events.now c.loop-event.event-index (Begin 0 []) c.loop-event-test.true start c.args.desk.now c.loop-event.desk c.answer.new.desk c.args.outside.now c.loop-event.outside c.answer.new.outside
+      (now.still (g.met.S.Supervisor.shown_told c.args.desk.now _ start shows).still_open) now.answered.tells.fixed c.answer.result (now.ran start sure shows) c.answer.ensures.ran later (prints_broken c.answer.result later (search rules) broke) (λ is. broke) (if_ok_broken later _ broke) (if_ok_broken later _ broke) (if_ok_broken later _ broke);
+}
+
+pub returns : goal.returns
+returns g c = record {
+  tells = grind (arith, nat_tests, tells_well, take_all);
+  answered =
+      let S = g.S.Supervisor in
+      let later = g.met.W.Outside.fewer_later in
+      answered_all S g.W.Outside later c.args.events.now c.loop-event.event-index c.args.desk.now c.loop-event.desk c.args.outside.now c.loop-event.outside (Ok going.On)
+      (answered_well S g.W.Outside later _ c.args.desk.now c.loop-event.desk c.args.outside.now c.loop-event.outside 0 going.On c.loop-event.invariant.answered);
+  goes = first_of (search rules, grind (arith, common_steps));
+  shut = λ was. shut_unasked c.args.events.now c.loop-event.event-index (c.loop-event.invariant.shut was).0 c.loop-event-test.false;
+  ran =
+      λ start sure shows. let now = c.loop-event.invariant in
+      record {
+        front = take c.loop-event.event-index c.args.events.now;
+        rest = [];
+        whole = append-nil (take c.loop-event.event-index c.args.events.now) ∙ take_all c.loop-event.event-index c.args.events.now c.loop-event-test.false;
+        ran = ran_as g.S.Supervisor g.W.Outside g.met.W.Outside.fewer_later (map (λ name. name.items) c.args.names.now) (names_are (λ name. name.items) c.args.names.now c.requires.unbroken) (g.S.Supervisor.told c.args.desk.now).fixed.programs (g.S.Supervisor.told c.args.desk.now).fixed.opened _ start c.loop-event.desk c.args.outside.now c.loop-event.outside (Ok 0) (Ok going.On) (λ one two bytes prints. prints_well one two bytes 0 going.On prints) (λ is. is) (now.ran start sure shows);
+        closed = now.still (g.met.S.Supervisor.shown_told c.args.desk.now _ start shows).still_open;
+        sound = refl;
+        all = λ still. refl;
+      };
+}
 
 pub loop-event-init : goal.loop-event-init
 loop-event-init g c =
@@ -23,31 +71,6 @@ answer-requires g c = record {
   names = omega (arith, ap (λ (fixed : Fixed). length fixed.programs) c.loop-event.invariant.answered.tells.fixed, c.requires.names);
   unbroken = c.requires.unbroken;
 }
-
-pub returns-in_err-going-clause-answered : goal.returns-in_err-going-clause-answered
-returns-in_err-going-clause-answered g c =
-    answered_all g.S.Supervisor g.W.Outside g.met.W.Outside.fewer_later c.args.events.now (c.loop-event.event-index + 1) c.args.desk.now c.answer.new.desk c.args.outside.now c.answer.new.outside c.from_residual.result
-    (answered_broken g.S.Supervisor g.W.Outside g.met.W.Outside.fewer_later _ c.args.desk.now c.answer.new.desk c.args.outside.now c.answer.new.outside c.answer.result c.from_residual.result (search rules) c.from_residual.ensures.0
-    (answered_more g.S.Supervisor g.W.Outside g.met.W.Outside.fewer_later c.args.events.now c.loop-event.event-index (Begin 0 []) c.loop-event-test.true c.args.desk.now c.loop-event.desk c.args.outside.now c.loop-event.outside c.answer.new.desk c.answer.new.outside c.answer.result c.loop-event.invariant.answered c.answer.ensures.answered))
-
-pub returns-in_err-going-clause-tells : goal.returns-in_err-going-clause-tells
-returns-in_err-going-clause-tells g c =
-    let S = g.S.Supervisor in
-    let names = map (λ name. name.items) c.args.names.now in
-    record {
-      count = c.loop-event.event-index + 1;
-      tells = tells_broken g.W.Outside names (take (c.loop-event.event-index + 1) c.args.events.now) (S.told c.args.desk.now).order (S.told c.answer.new.desk).order c.args.outside.now c.answer.new.outside c.answer.result c.from_residual.result (search rules) c.from_residual.ensures.0
-          (tells_more g.W.Outside names c.args.events.now c.loop-event.event-index (Begin 0 []) c.loop-event-test.true (S.told c.args.desk.now).order (S.told c.loop-event.desk).order (S.told c.answer.new.desk).order c.args.outside.now c.loop-event.outside c.answer.new.outside c.answer.result c.loop-event.invariant.tells c.answer.ensures.tells);
-      all = if_ok_broken c.from_residual.result _ c.from_residual.ensures.0;
-    }
-
-pub returns-in_err-going-clause-ran : goal.returns-in_err-going-clause-ran
-returns-in_err-going-clause-ran g c = λ start sure shows.
-    let now = c.loop-event.invariant in
-    let later = c.from_residual.result in
-    let broke = c.from_residual.ensures.0 in
-    ran_last g.S.Supervisor g.W.Outside g.met.W.Outside.fewer_later (map (λ name. name.items) c.args.names.now) (names_are (λ name. name.items) c.args.names.now c.requires.unbroken) c.args.events.now c.loop-event.event-index (Begin 0 []) c.loop-event-test.true start c.args.desk.now c.loop-event.desk c.answer.new.desk c.args.outside.now c.loop-event.outside c.answer.new.outside
-    (now.still (g.met.S.Supervisor.shown_told c.args.desk.now _ start shows).still_open) now.answered.tells.fixed c.answer.result (now.ran start sure shows) c.answer.ensures.ran later (prints_broken c.answer.result later (search rules) broke) (λ is. broke) (if_ok_broken later _ broke) (if_ok_broken later _ broke) (if_ok_broken later _ broke)
 
 pub returns-in_default : goal.returns-in_default
 returns-in_default g c =
@@ -89,28 +112,3 @@ loop-event-preserved g c =
           ran_further S G g.met.W.Outside.fewer_later (map (λ name. name.items) c.args.names.now) (names_are (λ name. name.items) c.args.names.now c.requires.unbroken) c.args.events.now c.loop-event.event-index (Begin 0 []) c.loop-event-test.true start c.args.desk.now c.loop-event.desk c.answer.new.desk c.args.outside.now c.loop-event.outside c.answer.new.outside
           (now.still (g.met.S.Supervisor.shown_told c.args.desk.now _ start shows).still_open) now.answered.tells.fixed (Ok how) (now.ran start sure shows) c.in_ok-going.ensures.ran (Ok 0) (λ one two bytes prints. prints_well one two bytes how 0 prints) (λ is. is);
     }
-
-pub returns-clause-tells : goal.returns-clause-tells
-returns-clause-tells g c = grind (arith, nat_tests, tells_well, take_all)
-
-pub returns-clause-ran : goal.returns-clause-ran
-returns-clause-ran g c = λ start sure shows. let now = c.loop-event.invariant in
-    record {
-      front = take c.loop-event.event-index c.args.events.now;
-      rest = [];
-      whole = append-nil (take c.loop-event.event-index c.args.events.now) ∙ take_all c.loop-event.event-index c.args.events.now c.loop-event-test.false;
-      ran = ran_as g.S.Supervisor g.W.Outside g.met.W.Outside.fewer_later (map (λ name. name.items) c.args.names.now) (names_are (λ name. name.items) c.args.names.now c.requires.unbroken) (g.S.Supervisor.told c.args.desk.now).fixed.programs (g.S.Supervisor.told c.args.desk.now).fixed.opened _ start c.loop-event.desk c.args.outside.now c.loop-event.outside (Ok 0) (Ok going.On) (λ one two bytes prints. prints_well one two bytes 0 going.On prints) (λ is. is) (now.ran start sure shows);
-      closed = now.still (g.met.S.Supervisor.shown_told c.args.desk.now _ start shows).still_open;
-      sound = refl;
-      all = λ still. refl;
-    }
-
-pub returns-clause-answered : goal.returns-clause-answered
-returns-clause-answered g c =
-    let S = g.S.Supervisor in
-    let later = g.met.W.Outside.fewer_later in
-    answered_all S g.W.Outside later c.args.events.now c.loop-event.event-index c.args.desk.now c.loop-event.desk c.args.outside.now c.loop-event.outside (Ok going.On)
-    (answered_well S g.W.Outside later _ c.args.desk.now c.loop-event.desk c.args.outside.now c.loop-event.outside 0 going.On c.loop-event.invariant.answered)
-
-pub returns-clause-shut : goal.returns-clause-shut
-returns-clause-shut g c = λ was. shut_unasked c.args.events.now c.loop-event.event-index (c.loop-event.invariant.shut was).0 c.loop-event-test.false

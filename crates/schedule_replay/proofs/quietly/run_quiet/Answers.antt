@@ -1,6 +1,57 @@
-use Rattle.schedule_replay.proofs.Lemmas.{◌≡◌, [], ◌+◌, take, drop, refl, arith, append-nil, ◌∙◌, Ok, Some, None, take-append-drop, take_all, ap, Fixed, calls_none, calls_on, Begin, event_lines, common_steps, answered_all, answered_none, answered_more, shut_asked, shut_unasked, ran_nothing, ran_next_quietly, tells_nothing}
+use Rattle.schedule_replay.proofs.Lemmas.{rules, ◌≡◌, [], ◌+◌, take, drop, refl, arith, append-nil, ◌∙◌, Ok, Some, None, take-append-drop, take_all, ap, Fixed, calls_none, calls_on, Begin, event_lines, common_steps, answered_all, answered_none, answered_more, shut_asked, shut_unasked, ran_nothing, ran_next_quietly, tells_nothing}
 use Rattle.schedule_replay.specs.declared.events.Going.TheVariants as going
 use Rattle.schedule_replay.proofs.quietly.run_quiet.Goals as goal
+
+pub returns-in-None : goal.returns-in-None
+returns-in-None g c = record {
+  runs =
+      λ start sure shows.
+      let S = g.S.Supervisor in
+      let now = c.loop-event.invariant in
+      let old = c.args.desk.now in
+      let so_far = now.ran start sure shows in
+      let it = ran_next_quietly S g.W.Outside g.met.W.Outside.fewer_later (S.told old).fixed.programs (S.told old).fixed.opened c.args.events.now c.loop-event.event-index (Begin 0 []) c.loop-event-test.true start c.loop-event.desk c.answer.new.desk c.args.outside.now c.loop-event.outside c.answer.new.outside c.loop-event.last.items c.answer.new.last.items (record { commits = c.loop-event.commits; rollbacks = c.loop-event.rollbacks }) None
+      (now.still (g.met.S.Supervisor.shown_told old _ start shows).still_open) (ap (λ (fixed : Fixed). fixed.programs) now.answered.tells.fixed) (ap (λ (fixed : Fixed). fixed.opened) now.answered.tells.fixed) now.calls c.answer.ensures.kept.calls so_far.0 so_far.1 c.in-None.ensures.went in
+      record {
+        front = take (c.loop-event.event-index + 1) c.args.events.now;
+        rest = drop (c.loop-event.event-index + 1) c.args.events.now;
+        whole = take-append-drop (c.loop-event.event-index + 1) c.args.events.now;
+        ran = it.0;
+        tells = tt;
+        closed = c.in-None.ensures.kept.closed;
+        all = λ no. absurd (cc);
+      };
+  goes = first_of (search rules, grind (arith, common_steps));
+  shut = λ was. shut_asked c.args.events.now c.loop-event.event-index going.Closed c.loop-event-test.true refl;
+  calls = calls_on g.W.Outside g.met.W.Outside.fewer_later c.args.outside.now c.loop-event.outside c.answer.new.outside c.loop-event.invariant.calls.time c.answer.ensures.kept.calls.time c.loop-event.invariant.calls c.answer.ensures.kept.calls;
+  answered =
+      let S = g.S.Supervisor in
+      let later = g.met.W.Outside.fewer_later in
+      answered_all S g.W.Outside later c.args.events.now (c.loop-event.event-index + 1) c.args.desk.now c.answer.new.desk c.args.outside.now c.answer.new.outside (Ok 0)
+      (answered_more S g.W.Outside later c.args.events.now c.loop-event.event-index (Begin 0 []) c.loop-event-test.true c.args.desk.now c.loop-event.desk c.args.outside.now c.loop-event.outside c.answer.new.desk c.answer.new.outside (Ok 0) c.loop-event.invariant.answered c.answer.ensures.kept.answered);
+}
+
+pub returns : goal.returns
+returns g c = record {
+  runs =
+      λ start sure shows.
+      let L = g.met.S.Supervisor in
+      let now = c.loop-event.invariant in
+      let it = now.ran start sure shows in
+      record {
+        front = take c.loop-event.event-index c.args.events.now;
+        rest = [];
+        whole = append-nil (take c.loop-event.event-index c.args.events.now) ∙ take_all c.loop-event.event-index c.args.events.now c.loop-event-test.false;
+        ran = it.0;
+        tells = it.1;
+        closed = now.still (L.shown_told c.args.desk.now _ start shows).still_open;
+        all = λ still. refl;
+      };
+  goes = first_of (search rules, grind (arith, common_steps));
+  shut = λ was. shut_unasked c.args.events.now c.loop-event.event-index (c.loop-event.invariant.shut was).0 c.loop-event-test.false;
+  calls = first_of (search rules, grind (arith, common_steps));
+  answered = answered_all g.S.Supervisor g.W.Outside g.met.W.Outside.fewer_later c.args.events.now c.loop-event.event-index c.args.desk.now c.loop-event.desk c.args.outside.now c.loop-event.outside (Ok 0) c.loop-event.invariant.answered;
+}
 
 pub loop-event-init : goal.loop-event-init
 loop-event-init g c =
@@ -36,68 +87,17 @@ loop-event-preserved g c =
     let between = c.loop-event.outside in
     let after = c.answer.new.outside in
     record {
-      answered = answered_more S G M.fewer_later c.args.events.now c.loop-event.event-index (Begin 0 []) c.loop-event-test.true old mid before between new after (Ok 0) now.answered c.answer.ensures.answered;
-      calls = calls_on G M.fewer_later before between after now.calls.time c.answer.ensures.calls.time now.calls c.answer.ensures.calls;
-      still = λ was_open. c.in-Some.ensures.closed;
-      shut = λ was. absurd (let no : Some c.in-Some.tally ≡ None = c.in-Some.ensures.shut (now.shut was).1 in cc (no));
-      few = omega (arith, now.few, c.in-Some.ensures.small.0);
-      few_back = omega (arith, now.few_back, c.in-Some.ensures.small.1);
+      answered = answered_more S G M.fewer_later c.args.events.now c.loop-event.event-index (Begin 0 []) c.loop-event-test.true old mid before between new after (Ok 0) now.answered c.answer.ensures.kept.answered;
+      calls = calls_on G M.fewer_later before between after now.calls.time c.answer.ensures.kept.calls.time now.calls c.answer.ensures.kept.calls;
+      still = λ was_open. c.in-Some.ensures.kept.closed;
+      shut = λ was. absurd (let no : Some c.in-Some.tally ≡ None = c.in-Some.ensures.kept.shut (now.shut was).1 in cc (no));
+      few = omega (arith, now.few, c.in-Some.ensures.kept.small.0);
+      few_back = omega (arith, now.few_back, c.in-Some.ensures.kept.small.1);
       ran = λ start sure shows.
           let so_far = now.ran start sure shows in
           ran_next_quietly S G M.fewer_later (S.told old).fixed.programs (S.told old).fixed.opened c.args.events.now c.loop-event.event-index (Begin 0 []) c.loop-event-test.true start mid new before between after c.loop-event.last.items c.answer.new.last.items (record { commits = c.loop-event.commits; rollbacks = c.loop-event.rollbacks }) (Some c.in-Some.tally)
-          (now.still (L.shown_told old _ start shows).still_open) (ap (λ (fixed : Fixed). fixed.programs) now.answered.tells.fixed) (ap (λ (fixed : Fixed). fixed.opened) now.answered.tells.fixed) now.calls c.answer.ensures.calls so_far.0 so_far.1 c.in-Some.ensures.went;
+          (now.still (L.shown_told old _ start shows).still_open) (ap (λ (fixed : Fixed). fixed.programs) now.answered.tells.fixed) (ap (λ (fixed : Fixed). fixed.opened) now.answered.tells.fixed) now.calls c.answer.ensures.kept.calls so_far.0 so_far.1 c.in-Some.ensures.went;
     }
-
-pub returns-in-None-clause-runs : goal.returns-in-None-clause-runs
-returns-in-None-clause-runs g c =
-    λ start sure shows.
-    let S = g.S.Supervisor in
-    let now = c.loop-event.invariant in
-    let old = c.args.desk.now in
-    let so_far = now.ran start sure shows in
-    let it = ran_next_quietly S g.W.Outside g.met.W.Outside.fewer_later (S.told old).fixed.programs (S.told old).fixed.opened c.args.events.now c.loop-event.event-index (Begin 0 []) c.loop-event-test.true start c.loop-event.desk c.answer.new.desk c.args.outside.now c.loop-event.outside c.answer.new.outside c.loop-event.last.items c.answer.new.last.items (record { commits = c.loop-event.commits; rollbacks = c.loop-event.rollbacks }) None
-    (now.still (g.met.S.Supervisor.shown_told old _ start shows).still_open) (ap (λ (fixed : Fixed). fixed.programs) now.answered.tells.fixed) (ap (λ (fixed : Fixed). fixed.opened) now.answered.tells.fixed) now.calls c.answer.ensures.calls so_far.0 so_far.1 c.in-None.ensures.went in
-    record {
-      front = take (c.loop-event.event-index + 1) c.args.events.now;
-      rest = drop (c.loop-event.event-index + 1) c.args.events.now;
-      whole = take-append-drop (c.loop-event.event-index + 1) c.args.events.now;
-      ran = it.0;
-      tells = tt;
-      closed = c.in-None.ensures.closed;
-      all = λ no. absurd (cc);
-    }
-
-pub returns-clause-runs : goal.returns-clause-runs
-returns-clause-runs g c =
-    λ start sure shows.
-    let L = g.met.S.Supervisor in
-    let now = c.loop-event.invariant in
-    let it = now.ran start sure shows in
-    record {
-      front = take c.loop-event.event-index c.args.events.now;
-      rest = [];
-      whole = append-nil (take c.loop-event.event-index c.args.events.now) ∙ take_all c.loop-event.event-index c.args.events.now c.loop-event-test.false;
-      ran = it.0;
-      tells = it.1;
-      closed = now.still (L.shown_told c.args.desk.now _ start shows).still_open;
-      all = λ still. refl;
-    }
-
-pub returns-in-None-clause-answered : goal.returns-in-None-clause-answered
-returns-in-None-clause-answered g c =
-    let S = g.S.Supervisor in
-    let later = g.met.W.Outside.fewer_later in
-    answered_all S g.W.Outside later c.args.events.now (c.loop-event.event-index + 1) c.args.desk.now c.answer.new.desk c.args.outside.now c.answer.new.outside (Ok 0)
-    (answered_more S g.W.Outside later c.args.events.now c.loop-event.event-index (Begin 0 []) c.loop-event-test.true c.args.desk.now c.loop-event.desk c.args.outside.now c.loop-event.outside c.answer.new.desk c.answer.new.outside (Ok 0) c.loop-event.invariant.answered c.answer.ensures.answered)
-
-pub returns-clause-answered : goal.returns-clause-answered
-returns-clause-answered g c = answered_all g.S.Supervisor g.W.Outside g.met.W.Outside.fewer_later c.args.events.now c.loop-event.event-index c.args.desk.now c.loop-event.desk c.args.outside.now c.loop-event.outside (Ok 0) c.loop-event.invariant.answered
-
-pub returns-in-None-clause-shut : goal.returns-in-None-clause-shut
-returns-in-None-clause-shut g c = λ was. shut_asked c.args.events.now c.loop-event.event-index going.Closed c.loop-event-test.true refl
-
-pub returns-clause-shut : goal.returns-clause-shut
-returns-clause-shut g c = λ was. shut_unasked c.args.events.now c.loop-event.event-index (c.loop-event.invariant.shut was).0 c.loop-event-test.false
 
 pub answer-requires-clause-ready : goal.answer-requires-clause-ready
 answer-requires-clause-ready g c = grind (arith, common_steps)

@@ -1,5 +1,4 @@
-use Rattle.std.proofs.Common.{rules}
-use Rattle.supervisor.proofs.Common.{held_of, byte_count, FlatStore, Header, most_lines, opened, Activity, Begins, activity, Session, length, false, ◌≡◌, refl, sym, ◌∙◌, ap, subst}
+use Rattle.supervisor.proofs.Common.{rules, held_of, byte_count, FlatStore, Header, most_lines, opened, Activity, Begins, activity, Session, length, false, ◌≡◌, refl, sym, ◌∙◌, ap, subst}
 use Rattle.supervisor.proofs.OpeningLemmas.{IsMade, made-opened, has-stood}
 use Rattle.supervisor.proofs.session.Session.open.Given as given
 use Rattle.supervisor.proofs.session.Session.open.Goals as goal
@@ -34,30 +33,26 @@ is-made g c =
           header (c.in_ok-activations.ensures.first committed);
     }
 
-pub returns-clause-opened : goal.returns-clause-opened
-returns-clause-opened g c = λ honest told. made-opened c.args.frames (made_session g c) (is-made g c) g.W.Outside c.args.outside.now c.open.new.outside c.open.ensures.asks.asks (c.in_ok-store.ensures.opened.tracks honest told)
-
-pub returns-clause-told : goal.returns-clause-told
-returns-clause-told g c = λ told. has-stood (held_of g.W.Outside c.args.outside.now) c.in_ok-store.store (c.in_ok-store.ensures.opened.shows told)
-
-pub returns-clause-room : goal.returns-clause-room
-returns-clause-room g c = c.in_ok-store.ensures.opened.room
-
-pub returns-clause-new : goal.returns-clause-new
-returns-clause-new g c = record {
-  sound = record {
-    ranges = search rules;
-    running = c.sound.ensures;
-    directory = (is-made g c).directory;
-    most = search rules;
-    room = search rules;
-    usable = λ still. c.in_ok-store.ensures.opened.usable;
+pub returns-clause-made : goal.returns-clause-made
+returns-clause-made g c = record {
+  new = record {
+    sound = record {
+      ranges = search rules;
+      running = c.sound.ensures;
+      directory = (is-made g c).directory;
+      most = search rules;
+      room = search rules;
+      usable = λ still. c.in_ok-store.ensures.opened.usable;
+    };
+    programs_are = search rules;
+    begins_are = refl;
+    none_given = search rules;
+    no_turns = refl;
+    nothing_printed = search rules;
+    none_committed = search rules;
+    still_open = refl;
   };
-  programs_are = search rules;
-  begins_are = refl;
-  none_given = search rules;
-  no_turns = refl;
-  nothing_printed = search rules;
-  none_committed = search rules;
-  still_open = refl;
+  room = c.in_ok-store.ensures.opened.room;
+  opened = λ honest told. made-opened c.args.frames (made_session g c) (is-made g c) g.W.Outside c.args.outside.now c.open.new.outside c.open.ensures.asks.asks (c.in_ok-store.ensures.opened.tracks honest told);
+  told = λ told. has-stood (held_of g.W.Outside c.args.outside.now) c.in_ok-store.store (c.in_ok-store.ensures.opened.shows told);
 }
