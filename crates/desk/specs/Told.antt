@@ -60,15 +60,14 @@ Takes G event told numbered fixed shows now before after =
 abbrev pub OfShown : (shows : List ℕ → Desk → Type 0) → (Desk → Type 0) → Type 0
 OfShown shows P = (held : List ℕ) (desk : Desk) → shows held desk → P desk
 
--- What each call does with a supervisor that shows desks so, tells this of itself and is sound where this holds, and with its outside.
-module _ {D : Type 0} (shows : D → List ℕ → Desk → Type 0) (says : D → Told) (Holds : D → Type 0) where
+-- What each call does with a supervisor that shows desks so and tells this of itself, and with its outside.
+module _ {D : Type 0} (shows : D → List ℕ → Desk → Type 0) (says : D → Told) where
   -- A program begins: each desk that was shown takes the step that the answer tells of, and the one after it is shown. One number more is given at most.
   pub record HasBegun (program : ℕ) (args : List ℕ) (old new : D) (answer : Begun) : Type 0 where
     pub did : (held : List ℕ) (desk : Desk) → shows old held desk → (next : Desk) × (step (says old).fixed.programs (event.Begin program args) Fine desk ≡ record { desk = next; happening = begun_told program answer }) × shows new held next
     pub shut : StaysShut (says old).closed (answer ≡ begun.Shut) (new ≡ old)
     pub told : says new ≡ record (says old) { given = (says new).given }
     pub given : (says new).given ≤ (says old).given + 1
-    pub sound : Holds new
 
   module _ {W : Type 0} (G : Ghosts W) where
     -- a turn is taken as its answer tells, with the writes and the faults that this tells of, and is counted
@@ -80,7 +79,6 @@ module _ {D : Type 0} (shows : D → List ℕ → Desk → Type 0) (says : D →
       pub turns : (says new).turns ≤ (says old).turns + 1
       pub failed : FailsCounted (turn_fails answer.end) (G.disk_faults before) (G.disk_faults after)
       pub calls : CallsStore G (says new).fixed.header before after
-      pub sound : Holds new
 
     -- a checkpoint is taken so: no write is undone, and only whether it is closed changes of what is told
     pub record HasStored (old new : D) (before after : W) (answer : Stored) : Type 0 where
@@ -90,7 +88,6 @@ module _ {D : Type 0} (shows : D → List ℕ → Desk → Type 0) (says : D →
       pub told : says new ≡ record (says old) { closed = stored_closes answer }
       pub failed : FailsCounted (stored_fails answer) (G.disk_faults before) (G.disk_faults after)
       pub calls : CallsStore G (says new).fixed.header before after
-      pub sound : Holds new
 
     -- a crash is taken so: the disk is only asked, and the answer is what its bytes hold
     pub record HasCrashed (old new : D) (before after : W) (answer : Reopened) : Type 0 where
@@ -100,4 +97,3 @@ module _ {D : Type 0} (shows : D → List ℕ → Desk → Type 0) (says : D →
       pub failed : FailsCounted (reopened_fails answer) (G.disk_faults before) (G.disk_faults after)
       pub damage : IsDamage G (says old).fixed.header before answer
       pub asks : OnlyAsks G before after
-      pub sound : Holds new

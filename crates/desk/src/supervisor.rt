@@ -15,48 +15,39 @@ pub trait Supervisor {
     /// It is open, and over a disk that holds these bytes it is this desk.
     ghost shows: { Self → List ℕ → Desk → Type 0 };
 
-    /// What holds of it at every moment.
-    ghost sound: { Self → Type 0 };
-
     /// What it tells of itself.
     ghost told: { Self → Told };
 
     /// The program with this place begins with four values.
     fn begin(&mut self, program: u16, args: [u32; 4]) -> Begun
-        requires sound { sound self.old }
         requires program { program < length (told self.old).fixed.programs }
         requires room { (told self.old).given < (told self.old).fixed.begins }
-        ensures { HasBegun shows told sound program args self.old self.new result };
+        ensures { HasBegun shows told program args self.old self.new result };
 
     /// A turn of an activation with at most so many rows, a million at most.
     fn turn<W: Outside>(&mut self, outside: &mut W, activation: u32, limit: u32) -> Turn
-        requires sound { sound self.old }
         requires limit { limit ≤ 1000000 }
         requires turns { (told self.old).turns < 2 ^ 32 }
         requires bytes { HoldsStore W.Outside (told self.old).fixed.header outside.old }
-        ensures { HasTurned shows told sound W.Outside activation limit
+        ensures { HasTurned shows told W.Outside activation limit
             self.old self.new outside.old outside.new result };
 
     /// Brings the store home, so that its journal begins again.
     fn checkpoint<W: Outside>(&mut self, outside: &mut W) -> Stored
-        requires sound { sound self.old }
         requires bytes { HoldsStore W.Outside (told self.old).fixed.header outside.old }
-        ensures { HasStored shows told sound W.Outside self.old self.new outside.old outside.new result };
+        ensures { HasStored shows told W.Outside self.old self.new outside.old outside.new result };
 
     /// A crash: it forgets all that isn't on the disk, and reads the store again. It only asks the disk.
     fn forget<W: Outside>(&mut self, outside: &mut W) -> Reopened
-        requires sound { sound self.old }
         requires bytes { HoldsStore W.Outside (told self.old).fixed.header outside.old }
-        ensures { HasCrashed shows told sound W.Outside self.old self.new outside.old outside.new result };
+        ensures { HasCrashed shows told W.Outside self.old self.new outside.old outside.new result };
 
     /// The store's number, where it shows a desk.
     fn number(&self) -> u64
-        requires { sound self.now }
         ensures { OfShown (shows self.now) (λ it. result ≡ number_after (told self.now).fixed.opened it) };
 
     /// The numbers of those that are active, ascending, where it shows a desk.
     fn active(&self) -> ArrayVec<u32, 16>
-        requires { sound self.now }
         ensures { OfShown (shows self.now) (λ desk. result.items ≡ numbers desk) };
 
     /// What the activation of the last turn that ended by a commit had printed.
@@ -66,7 +57,6 @@ pub trait Supervisor {
 
     /// The commits, in order, with one in doubt at most at the end.
     fn order(&self) -> &[Committed]
-        requires { sound self.now }
         ensures { map (λ commit. (commit.activation, commit.steps)) result.now ≡ (told self.now).order };
 
     /// What it tells while it shows a desk is that desk's.

@@ -20,7 +20,7 @@ use Rattle.desk_law.proofs.StepLemmas.{AreNames, run_plain}
 use Rattle.job_calls.specs.declared.ended.Ended.{Ended}
 use Rattle.schedule_replay.proofs.PutsLemmas.{PrintedNow}
 use Rattle.schedule_replay.proofs.ReportLemmas.{no_closing}
-use Rattle.supervisor.specs.declared.session.Session.{Session}
+use Rattle.supervisor.specs.declared.session.SessionState.{SessionState}
 use Rattle.call_status.specs.declared.status.Status.TheVariants as status
 
 -- a crash now may leave what is held
@@ -28,7 +28,7 @@ abbrev pub HeldNow : {W : Type 0} → Ghosts W → Type 0
 HeldNow {W} G = (w : W) (image : List ℕ) → G.held w ≡ Some image → (seen : List ℕ) × G.left_since w (G.moment w) image seen
 
 -- by whether a session was opened
-by-opening : {A B C : Type 0} (session : Option Session) → (A → C) → (B → C) → ByOpening session A B → C
+by-opening : {A B C : Type 0} (session : Option SessionState) → (A → C) → (B → C) → ByOpening session A B → C
 by-opening None opened refused did = refused did
 by-opening (Some session) opened refused did = opened did
 
@@ -69,7 +69,7 @@ put-whole : (status : Status) (put : Result ℕ PutFailed) (text seen : List ℕ
 put-whole status.PutFault put text seen unfailed is prints = absurd (unfailed refl)
 put-whole _ put text seen unfailed is prints = let told : Prints {T = ℕ} (Some []) (Some seen) text (Ok 0) = subst (λ (put : Result ℕ PutFailed). Prints (Some []) (Some seen) text put) is prints in cc
 
-module _ {W : Type 0} (G : Ghosts W) (job : Job) (number : ℕ) (store : FlatStore) (before after : W) (order : List (ℕ × ℕ)) (session : Option Session) where
+module _ {W : Type 0} (G : Ghosts W) (job : Job) (number : ℕ) (store : FlatStore) (before after : W) (order : List (ℕ × ℕ)) (session : Option SessionState) where
   abbrev commits : List Activation
   commits = begun job.programs.items job.events.items
 

@@ -22,4 +22,4 @@ pub use Rattle.real_files.specs.Shown.{bytes_of, marks_of, printed_of}
 pub use Rattle.std.specs.Prelude.{All, cond, count_by, false, ◌*◌}
 pub use Rattle.store_calls.specs.New.{IsNoStore, IsStored, Written, WrittenBy, new_line}
 pub use Rattle.store_format.specs.Stands.{Standing, Stands, stands}
-pub use Rattle.supervisor.specs.declared.session.Session.{Session}
+pub use Rattle.supervisor.specs.declared.session.SessionState.{SessionState}

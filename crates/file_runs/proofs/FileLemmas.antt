@@ -1,5 +1,5 @@
 -- From what the console did on an outside to what it did on the file and the screen behind it.
-use Rattle.file_runs.proofs.Common.{◌≡◌, inl, inr, ⊎_elim, ℕ, ◌+◌, ◌≤◌, List, [], ◌∷◌, ◌++◌, append_assoc, Torn, written, length, length-append, take, drop, refl, sym, ◌∙◌, ap, subst, arith, suc, Option, Result, Some, IsSome, unwrap_or, Leaves, AsksAndPuts, OnlyAsks, None, Ghosts, All, cond, count_by, false, IsSure, FlatStore, Stands, stands, begun, IsSerial, Given, call, IsFaultAt, TellsStore, Status, Session, report, event_lines, Desk, IsRunOf, run, Line, Failed, held_of, Happened, RanJob, Refused, job_desk, names_of, Deed, Wrote, Tore, Synced, Unsynced, images_after, images_at, images_by, is_write, bytes_of, printed_of, marks_of, AreBehind, Hands, IsBehind, IsQuiet, IsSeenAt, KeepsFile, LeavesAlways, LeavesAt, LeavesLast, OnlyAsked, RanOnFile, RanOnScreen, RunsFrom, RunsOnFile, begun_by}
+use Rattle.file_runs.proofs.Common.{◌≡◌, inl, inr, ⊎_elim, ℕ, ◌+◌, ◌≤◌, List, [], ◌∷◌, ◌++◌, append_assoc, Torn, written, length, length-append, take, drop, refl, sym, ◌∙◌, ap, subst, arith, suc, Option, Result, Some, IsSome, unwrap_or, Leaves, AsksAndPuts, OnlyAsks, None, Ghosts, All, cond, count_by, false, IsSure, FlatStore, Stands, stands, begun, IsSerial, Given, call, IsFaultAt, TellsStore, Status, SessionState, report, event_lines, Desk, IsRunOf, run, Line, Failed, held_of, Happened, RanJob, Refused, job_desk, names_of, Deed, Wrote, Tore, Synced, Unsynced, images_after, images_at, images_by, is_write, bytes_of, printed_of, marks_of, AreBehind, Hands, IsBehind, IsQuiet, IsSeenAt, KeepsFile, LeavesAlways, LeavesAt, LeavesLast, OnlyAsked, RanOnFile, RanOnScreen, RunsFrom, RunsOnFile, begun_by}
 use Rattle.std.proofs.lemmas.List.{append_cancel_left, nil_from_length, take_all}
 use Rattle.std.proofs.lemmas.List.Elements.{All-nil, All-cons}
 use Rattle.outside.proofs.Torn.{torn_by_written, untouched}
@@ -122,7 +122,7 @@ module _ {W : Type 0} (G : Ghosts W) (before after : W) (first : List ℕ) (puts
   pub unput : (G.moment after).puts ≡ (G.moment before).puts → puts ≡ []
   unput same = let none : length puts ≡ 0 = sym behind.count ∙ same ∙ behind.unput in nil_from_length puts none
 
-  pub ran_on_screen : (given : Given) (order : List (ℕ × ℕ)) (status : Status) (session : Option Session) → RanJob G given (call before after order status) session
+  pub ran_on_screen : (given : Given) (order : List (ℕ × ℕ)) (status : Status) (session : Option SessionState) → RanJob G given (call before after order status) session
       → (number : ℕ) (store : FlatStore) → stands first ≡ Stands number store → RanOnScreen given number store first puts order status
   ran_on_screen given order status session ran number store stood =
       let did = ran.has_run number store (stands_at number store stood) in
@@ -209,7 +209,7 @@ module _ {W : Type 0} (G : Ghosts W) (before after : W) (first : List ℕ) (deed
       let its = behind.now left is_left in
       subst (λ (those : Option (List ℕ)). AreTold those left) held (sure.durable left its.0 its.1)
 
-  pub ran_on_file : (given : Given) (order : List (ℕ × ℕ)) (status : Status) (session : Option Session) → RanJob G given (call before after order status) session
+  pub ran_on_file : (given : Given) (order : List (ℕ × ℕ)) (status : Status) (session : Option SessionState) → RanJob G given (call before after order status) session
       → RunsFrom first (λ number store. RanOnFile given number store first deeds puts order status)
   unfolding ran_on_screen
   ran_on_file given order status session ran number store stood =
@@ -241,7 +241,7 @@ module _ {W : Type 0} (G : Ghosts W) (before after : W) (first : List ℕ) (deed
     refused : (end : Status) → Refused G (call before after order end) → OnlyAsked first deeds puts
     refused end is = only_asked is.untouched.asks
 
-    pub run_on_file : (session : Option Session) (end : Status) → Happened G given (call before after order end) session → RunsOnFile given first deeds puts order session end
+    pub run_on_file : (session : Option SessionState) (end : Status) → Happened G given (call before after order end) session → RunsOnFile given first deeds puts order session end
     run_on_file session status.Done did = ran_on_file given order status.Done session did.by_status
     run_on_file session status.PutFault did = ran_on_file given order status.PutFault session did.by_status
     run_on_file (Some session) status.DiskFault did = ran_on_file given order status.DiskFault (Some session) did.by_status

@@ -1,5 +1,5 @@
 -- From what the words without a file did on an outside to what they handed to the screen behind it.
-use Rattle.file_runs.proofs.Common.{◌≡◌, inl, inr, ⊎_elim, ℕ, ◌≤◌, List, [], length, min, ap, ◌∙◌, subst, IsSome, Option, None, Some, Result, Prints, held_of, ◌*◌, ◌++◌, Ghosts, Failed, Desk, Line, serial_lines, event_lines, IsRunOf, run, Session, Given, call, IsFaultAt, Status, Happened, Refused, job_desk, Deed, printed_of, Hands, IsBehind, AuditedOnScreen, AuditsBy, DrilledJob, DrilledOnScreen, DrillsBy, HandsDrill, HandsLoad, HandsStops, ListedOnScreen, LoadedOnScreen, TracedOnScreen, TracesBy, TriedOnScreen, begun, IsSerial}
+use Rattle.file_runs.proofs.Common.{◌≡◌, inl, inr, ⊎_elim, ℕ, ◌≤◌, List, [], length, min, ap, ◌∙◌, subst, IsSome, Option, None, Some, Result, Prints, held_of, ◌*◌, ◌++◌, Ghosts, Failed, Desk, Line, serial_lines, event_lines, IsRunOf, run, SessionState, Given, call, IsFaultAt, Status, Happened, Refused, job_desk, Deed, printed_of, Hands, IsBehind, AuditedOnScreen, AuditsBy, DrilledJob, DrilledOnScreen, DrillsBy, HandsDrill, HandsLoad, HandsStops, ListedOnScreen, LoadedOnScreen, TracedOnScreen, TracesBy, TriedOnScreen, begun, IsSerial}
 use Rattle.desk.specs.declared.event.Event.{Event}
 use Rattle.job_text.specs.declared.job.Job.{Job}
 use Rattle.call_status.specs.Statuses.{WentThrough}
@@ -56,7 +56,7 @@ module _ {W : Type 0} (G : Ghosts W) (before after : W) (first : List ℕ) (puts
     trace_on_screen activation end did =
         with_bundle given (after ≡ before) (puts ≡ []) (λ text. TracedBy G text activation before after end) (λ text. TracesBy text activation puts end) none (traces_by activation end) end did.by_status
 
-    pub try_on_screen : (session : Option Session) (end : Status) → Happened G given (call before after order end) session → TriedOnScreen given first puts order session end
+    pub try_on_screen : (session : Option SessionState) (end : Status) → Happened G given (call before after order end) session → TriedOnScreen given first puts order session end
     try_on_screen session status.Done did = ran_on_screen G before after first puts behind given order status.Done session did.by_status
     try_on_screen (Some session) (status.Store offset) did = λ number store stood. did.by_status number store (stands_at G before after first puts behind number store stood)
     try_on_screen None (status.Store offset) did = (refused order (status.Store offset) did.by_status.refused, no_store offset did.by_status.fault)
@@ -65,7 +65,7 @@ module _ {W : Type 0} (G : Ghosts W) (before after : W) (first : List ℕ) (puts
     try_on_screen session status.PutFault did = ran_on_screen G before after first puts behind given order status.PutFault session did.by_status
     try_on_screen session end did = refused order end did.by_status
 
-  module _ (transfers : ℕ) (order : List (ℕ × ℕ)) (session : Option Session) where
+  module _ (transfers : ℕ) (order : List (ℕ × ℕ)) (session : Option SessionState) where
     ran_load : (end : Status) → WentThrough end → RanBig G transfers (call before after order end) session → HandsLoad transfers first puts order end
     ran_load end past ran =
         let job = ran.job in

@@ -25,4 +25,4 @@ pub use Rattle.store.specs.KeptStore.{KeptStore, number_of}
 pub use Rattle.store.specs.Shows.{Shows}
 pub use Rattle.store_calls.specs.New.{IsNoStore, new_line}
 pub use Rattle.store_format.specs.Stands.{Stands, stands}
-pub use Rattle.supervisor.specs.declared.session.Session.{Session}
+pub use Rattle.supervisor.specs.declared.session.SessionState.{SessionState}

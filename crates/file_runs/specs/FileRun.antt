@@ -1,6 +1,6 @@
 -- What a run left of a file and a screen, in the words of what was asked of them.
 use Rattle.std.specs.Prelude.{◌≡◌, ℕ, ◌+◌, ◌≤◌, false, List, [], length, take, count_by, All, Option, None, Some, Result, Ok, IsTrue}
-use Rattle.file_runs.specs.Below.{begun, ByOpening, content_of, Deed, Event, event_lines, Failed, FlatStore, Given, images_at, is_write, IsFaultAt, IsRunOf, IsSerial, IsWhole, Job, job_desk, job_of, marks_of, names_of, printed_of, Prints, put_by, report, run, Session, Stands, stands, Status, Synced, Tore, Unsynced, Word, Wrote}
+use Rattle.file_runs.specs.Below.{begun, ByOpening, content_of, Deed, Event, event_lines, Failed, FlatStore, Given, images_at, is_write, IsFaultAt, IsRunOf, IsSerial, IsWhole, Job, job_desk, job_of, marks_of, names_of, printed_of, Prints, put_by, report, run, SessionState, Stands, stands, Status, Synced, Tore, Unsynced, Word, Wrote}
 use Rattle.outside.specs.declared.world.Outside.{Ghosts}
 use Rattle.outside.specs.Clock.{shown_by}
 use Rattle.real_files.specs.Shown.{LeftBy}
@@ -90,7 +90,7 @@ abbrev pub StandsForNone : List ℕ → Type 0
 StandsForNone first = RunsFrom first (λ number store. ⊥)
 
 -- What `run` did, by its end: the job was run, or no event was, and the file was only asked; an event may end in a disk fault, and so may the opening.
-abbrev pub RunsOnFile : Given → (first : List ℕ) (deeds puts : List Deed) (order : List (ℕ × ℕ)) → Option Session → (end : Status) → Type 0
+abbrev pub RunsOnFile : Given → (first : List ℕ) (deeds puts : List Deed) (order : List (ℕ × ℕ)) → Option SessionState → (end : Status) → Type 0
 RunsOnFile given first deeds puts order session status.Done = RunsFrom first (λ number store. RanOnFile given number store first deeds puts order status.Done)
 RunsOnFile given first deeds puts order session status.PutFault = RunsFrom first (λ number store. RanOnFile given number store first deeds puts order status.PutFault)
 RunsOnFile given first deeds puts order session status.DiskFault =

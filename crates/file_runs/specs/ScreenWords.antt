@@ -1,6 +1,6 @@
 -- What the words without a file handed to the screen: their disk is one in memory.
 use Rattle.std.specs.Prelude.{◌≡◌, ◌⊎◌, ◌++◌, ◌*◌, ◌≤◌, ℕ, List, [], min, length, Option, Some, Result, Ok}
-use Rattle.file_runs.specs.Below.{begun, ByOpening, Command, content_of, Deed, Ended, Event, event_lines, Failed, FlatStore, Given, IsFaultAt, IsRunOf, IsSerial, IsWhole, Job, job_desk, job_of, order_told, printed_of, Prints, run, serial_lines, Session, Status, Word}
+use Rattle.file_runs.specs.Below.{begun, ByOpening, Command, content_of, Deed, Ended, Event, event_lines, Failed, FlatStore, Given, IsFaultAt, IsRunOf, IsSerial, IsWhole, Job, job_desk, job_of, order_told, printed_of, Prints, run, serial_lines, SessionState, Status, Word}
 use Rattle.job_text.specs.Big.{IsBigJob}
 use Rattle.job_text.specs.Grammar.{Content}
 use Rattle.serial_audit.specs.declared.answer.Trace.{Trace}
@@ -68,7 +68,7 @@ abbrev pub TracedOnScreen : (activation : ℕ) → Given → (puts : List Deed) 
 TracedOnScreen activation given puts end = WithBundle given (puts ≡ []) (λ text. TracesBy text activation puts end) end
 
 -- what `try` did on a disk that held these bytes, by its end: the job was run, or no event was, and nothing was handed to the screen
-abbrev pub TriedOnScreen : Given → (first : List ℕ) (puts : List Deed) (order : List (ℕ × ℕ)) → Option Session → (end : Status) → Type 0
+abbrev pub TriedOnScreen : Given → (first : List ℕ) (puts : List Deed) (order : List (ℕ × ℕ)) → Option SessionState → (end : Status) → Type 0
 TriedOnScreen given first puts order session status.Done = RunsFrom first (λ number store. RanOnScreen given number store first puts order status.Done)
 TriedOnScreen given first puts order session status.PutFault = RunsFrom first (λ number store. RanOnScreen given number store first puts order status.PutFault)
 TriedOnScreen given first puts order session status.DiskFault = ByOpening session (RunsFrom first (λ number store. RanOnScreen given number store first puts order status.DiskFault)) (puts ≡ [])

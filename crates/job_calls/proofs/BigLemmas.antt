@@ -1,5 +1,5 @@
 -- A load on the store that a disk stands for.
-use Rattle.job_calls.proofs.Common.{◌≡◌, ℕ, ◌<◌, ◌≤◌, ⊎_elim, true, false, List, [], ◌∷◌, ◌++◌, length, refl, sym, ◌∙◌, ap, subst, arith, append-nil, append_assoc, Option, Ghosts, Failed, AreTold, Prints, IsSure, Elapses, CallsDisk, FewerLater, OnlyAsks, held_of, elapses-trans, FlatStore, Activation, Event, begun, is_commit, commit_lines, serial_lines, IsSerial, Desk, Word, Line, printed, spaced, faulted, Header, total, IsSessionOpened, activity, order_of, Session, ghosts, IsLasting, RunsQuietly, Tells, is_rollback, is_shut, out_after, InDoubt, PrintedNow, to_later, Job, Status, HasBigRun, IsToldBy, Loaded, LoadedBy, RanBig, big_line, last_out, line_for, Call, call, RunsFrom, IsStanding, TellsStore, StillTold, codes, decimal, All, Bool, Some, Result, Ok, Err, IsSome, IsTrue, count_by, HoldsStore, FailsOnlyCounted, span, Opening, end_of, lines_of, opening_of, fixed_of, OnErr, Rose, GoesBy, going_of, WentThrough}
+use Rattle.job_calls.proofs.Common.{◌≡◌, ℕ, ◌<◌, ◌≤◌, ⊎_elim, true, false, List, [], ◌∷◌, ◌++◌, length, refl, sym, ◌∙◌, ap, subst, arith, append-nil, append_assoc, Option, Ghosts, Failed, AreTold, Prints, IsSure, Elapses, CallsDisk, FewerLater, OnlyAsks, held_of, elapses-trans, FlatStore, Activation, Event, begun, is_commit, commit_lines, serial_lines, IsSerial, Desk, Word, Line, printed, spaced, faulted, Header, total, IsSessionOpened, activity, order_of, SessionState, ghosts, IsLasting, RunsQuietly, Tells, is_rollback, is_shut, out_after, InDoubt, PrintedNow, to_later, Job, Status, HasBigRun, IsToldBy, Loaded, LoadedBy, RanBig, big_line, last_out, line_for, Call, call, RunsFrom, IsStanding, TellsStore, StillTold, codes, decimal, All, Bool, Some, Result, Ok, Err, IsSome, IsTrue, count_by, HoldsStore, FailsOnlyCounted, span, Opening, end_of, lines_of, opening_of, fixed_of, OnErr, Rose, GoesBy, going_of, WentThrough}
 use Rattle.std.specs.List.{fold}
 use Rattle.std.specs.Option.{ForSome}
 use Rattle.hex.specs.Hex.{encode_lower}
@@ -59,7 +59,7 @@ line_told transfers commits rollbacks last lines tells =
     ∙ ap (λ (out : List ℕ). big_line transfers (count_by is_commit lines) (count_by is_rollback lines) out) tells.last
 
 -- a run as it stands a little later, where nothing of it changed
-abbrev ran_until : {W : Type 0} (G : Ghosts W) (begins : Opening) (events : List Event) (new : Session) (start between after : W) (last : List ℕ) (quiet : Quiet)
+abbrev ran_until : {W : Type 0} (G : Ghosts W) (begins : Opening) (events : List Event) (new : SessionState) (start between after : W) (last : List ℕ) (quiet : Quiet)
     → RunsQuietly ghosts G begins events new (span start between) last quiet → G.held after ≡ G.held between → G.writes after ≡ G.writes between → G.disk_faults after ≡ G.disk_faults between → (IsSure G between → IsSure G after)
     → (new.closed ≡ true → (front : List (Event × Word)) (event : Event) → InDoubt G begins front event between → InDoubt G begins front event after)
     → ((image seen : List ℕ) → G.left_since after (G.moment start) image seen → (other : List ℕ) × G.left_since between (G.moment start) image other) → RanFrom G begins events new (span start after)
@@ -72,7 +72,7 @@ ran_until G begins events new start between after last quiet runs held writes di
   doubt = λ shut front event is. doubt (runs.ran.to.closes ∙ shut) front event (runs.ran.doubt shut front event is);
 }
 
-module _ {W : Type 0} (G : Ghosts W) (fewer_later : FewerLater G) (printed_now : PrintedNow G) (transfers : ℕ) (job : Job) (before start between after : W) (desk new : Session) (number : ℕ) (store : FlatStore)
+module _ {W : Type 0} (G : Ghosts W) (fewer_later : FewerLater G) (printed_now : PrintedNow G) (transfers : ℕ) (job : Job) (before start between after : W) (desk new : SessionState) (number : ℕ) (store : FlatStore)
     (standing : TellsStore G before number store) (opens : IsSessionOpened G job.frames before start desk) (asks : OnlyAsks G before start) (programs_are : (activity desk).programs ≡ job.programs.items) (same_opened : new.opened ≡ desk.opened)
     (same_honest : G.is_honest after ≡ G.is_honest start) (time : Elapses G.moment G.left_since start after) (asks-calm : G.disk_faults start ≡ G.disk_faults before)
     (last : List ℕ) (quiet : Quiet) (runs : RunsQuietly ghosts G (first_opening G job.frames before start desk opens asks []) job.events.items new (span start between) last quiet)
@@ -110,7 +110,7 @@ put_calm G before after status.Done past un cause = cause.done
 put_calm G before after status.PutFault past un cause = absurd (un refl)
 put_calm G before after _ past un cause = absurd past
 
-loaded_past : {W : Type 0} (G : Ghosts W) (transfers : ℕ) (c : Call W) (session : Option Session) (now : Status) → WentThrough now → RanBig G transfers c session → PutsTimes G 1 c.before c.after (put_of now) → LoadedBy G transfers c session now
+loaded_past : {W : Type 0} (G : Ghosts W) (transfers : ℕ) (c : Call W) (session : Option SessionState) (now : Status) → WentThrough now → RanBig G transfers c session → PutsTimes G 1 c.before c.after (put_of now) → LoadedBy G transfers c session now
 loaded_past G transfers c session status.Done past ran times = (ran, times)
 loaded_past G transfers c session status.PutFault past ran times = ran
 loaded_past G transfers c session _ past ran times = absurd past
@@ -122,7 +122,7 @@ times_since G before start between after (Ok value) asks calls times = λ told.
 times_since G before start between after (Err failed) asks calls times = tt
 
 -- what a load did, by how its run ended
-module _ {W : Type 0} (G : Ghosts W) (fewer_later : FewerLater G) (printed_now : PrintedNow G) (transfers : ℕ) (job : Job) (is_load : IsBigJob transfers job) (before start between : W) (desk new : Session)
+module _ {W : Type 0} (G : Ghosts W) (fewer_later : FewerLater G) (printed_now : PrintedNow G) (transfers : ℕ) (job : Job) (is_load : IsBigJob transfers job) (before start between : W) (desk new : SessionState)
     (opens : IsTrue (G.is_honest before) → IsSome (G.held before) → IsSessionOpened G job.frames before start desk) (asks : OnlyAsks G before start) (programs_are : (activity desk).programs ≡ job.programs.items) (same_programs : (activity new).programs ≡ (activity desk).programs) (same_opened : new.opened ≡ desk.opened) (asks-calm : G.disk_faults start ≡ G.disk_faults before)
     (stood : IsSome (G.held before) → IsStanding (held_of G before)) (last : List ℕ) (calls : CallsDisk G start between) (still : StillTold G start between) where
   abbrev Ran : Quiet → Type 0
@@ -212,7 +212,7 @@ big_text a b c d e f shown m n k transfers commits rollbacks out first second th
     ∙ ap (λ (x : ℕ). big_line x n k out) same_m ∙ ap (λ (x : ℕ). big_line transfers x k out) same_n ∙ ap (λ (x : ℕ). big_line transfers commits x out) same_k
 
 -- what is told of faults where a load was told so
-pub faults_told : {W : Type 0} (G : Ghosts W) (transfers : ℕ) (last : List ℕ) (before start between after : W) (desk new : Session) → OnlyAsks G before start → CallsDisk G start between → desk.closed ≡ false
+pub faults_told : {W : Type 0} (G : Ghosts W) (transfers : ℕ) (last : List ℕ) (before start between after : W) (desk new : SessionState) → OnlyAsks G before start → CallsDisk G start between → desk.closed ≡ false
     → (quiet : Quiet) → GoesBy ghosts G desk new start between (going_of quiet) → (now : Status) → IsToldBy G transfers quiet last (call between after [] now) → FaultsBy G before after now
 faults_told G transfers last before start between after desk new asks calls still (quiet.Ended commits rollbacks) goes now (past, puts, times) = record {
   disk = λ is. absurd (subst WentThrough is past);

@@ -45,7 +45,7 @@ unfoldable pub use Rattle.store_format.specs.Stands.{stands}
 pub use Rattle.supervisor.specs.Opened.{HasStood, IsSessionOpened}
 pub use Rattle.supervisor.specs.Session.{activity, fixed_of, session_desk, order_of}
 pub use Rattle.supervisor.specs.contracts.supervisor.SessionSupervisor.TheImpl.{ghosts}
-pub use Rattle.supervisor.specs.declared.session.Session.{Session}
+pub use Rattle.supervisor.specs.declared.session.SessionState.{SessionState}
 pub use Rattle.job_calls.specs.Big.{HasBigRun, IsToldBy, Loaded, LoadedBy, RanBig, big_line, last_out, line_for}
 pub use Rattle.job_calls.specs.Causes.{OpensBy, status_of_replay}
 pub use Rattle.job_calls.specs.Headline.{DidBy, DoubtStands, Happened, HappenedTo, JobHasRun, HasRunFrom, RanJob, RunsFrom, job_desk, job_opening, names_of, put_by, ByOpening, PutJob, TellsJob}

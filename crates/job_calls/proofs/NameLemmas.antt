@@ -1,5 +1,5 @@
 -- The names and events of a job that is ready.
-use Rattle.job_calls.proofs.Common.{◌≡◌, ◌≢◌, ℕ, suc, ◌<◌, ◌≤◌, List, [], ◌∷◌, length, vec_len, refl, sym, ap, subst, arith, All, get_or, count_by-le-length, length-map, Ghosts, Fixed, order_told, HoldsStore, IsUnbroken, Event, IsEventAmong, IsName, IsAsked, Job, Program, Session, activity, fixed_of, ghosts, is_turn, begins_in}
+use Rattle.job_calls.proofs.Common.{◌≡◌, ◌≢◌, ℕ, suc, ◌<◌, ◌≤◌, List, [], ◌∷◌, length, vec_len, refl, sym, ap, subst, arith, All, get_or, count_by-le-length, length-map, Ghosts, Fixed, order_told, HoldsStore, IsUnbroken, Event, IsEventAmong, IsName, IsAsked, Job, Program, SessionState, activity, fixed_of, ghosts, is_turn, begins_in}
 use Rattle.std.proofs.lemmas.Bool.Decides.{nat_tests}
 use Rattle.desk.specs.declared.event.Event.TheVariants.{Checkpoint, Crash}
 use Rattle.desk.specs.declared.answers.Committed.{Committed}
@@ -23,22 +23,14 @@ asked-among programs Crash is = tt
 asked-among programs _ is = is
 
 -- the events of a job that is ready may be asked of a session that has just opened for their begins
-pub ready-to-run : {W : Type 0} (G : Ghosts W) (job : Job) (s : Session) (outside : W) (begins : ℕ) (events : List Event) → events ≡ job.events.items → begins ≡ begins_in job.events.items
+pub ready-to-run : {W : Type 0} (G : Ghosts W) (job : Job) (s : SessionState) (outside : W) (begins : ℕ) (events : List Event) → events ≡ job.events.items → begins ≡ begins_in job.events.items
     → ready.IsReady job → IsNew job.programs.items begins s → HoldsStore G s.store.header outside → IsReady ghosts G events s outside
 ready-to-run G job s outside begins events same counted ready made bytes =
     let programs : length job.programs.items ≡ length (activity s).programs = sym (ap (λ (these : List Program). length these) made.programs_are) in
     subst (λ (these : List Event). IsReady ghosts G these s outside) (sym same)
     (record {
-      sound = made.sound;
       asked = λ k d within. asked-among (length (activity s).programs) (get_or job.events.items k d) (subst (λ (n : ℕ). IsEventAmong n (get_or job.events.items k d)) programs (ready.events k d within));
       begins = omega (arith, made.none_given, counted, made.begins_are);
       turns = omega (arith, count_by-le-length is_turn job.events.items, ready.few, made.no_turns);
       bytes = bytes;
     })
-
--- a session tells no more commits than begins were asked of it
-pub few-told : (told : List Committed) (new old : Session) → order_told told ≡ order_told new.order.items → vec_len new.order ≤ new.begins → fixed_of new ≡ fixed_of old → length told ≤ old.begins
-few-told told new old same few fixed =
-    let lengths : length (order_told told) ≡ length (order_told new.order.items) = ap length same in
-    let begins : new.begins ≡ old.begins = ap (λ (fixed : Fixed). fixed.begins) fixed in
-    omega (arith, lengths, length-map {B = ℕ × ℕ} told (λ commit. (commit.activation, commit.steps)), length-map {B = ℕ × ℕ} new.order.items (λ commit. (commit.activation, commit.steps)), new.order.ok.0, few, begins)

@@ -1,5 +1,5 @@
 -- What runs on the store that a disk stands for.
-use Rattle.job_calls.proofs.Common.{Result, Ok, Err, IsErr, IsSome, IsTrue, unwrap_or, Ghosts, Failed, Prints, Rose, Elapses, OnlyAsks, FewerLater, Leaves, held_of, elapses-trans, leaves_on, FlatStore, Activation, serial, header_of, most_lines, Standing, Stands, stands, Event, Desk, opened, Word, Doubt, run, faulted, IsRunOf, Line, line_text, Open, number_after, begun, IsSerial, IsSessionOpened, activity, session_desk, order_of, Session, ghosts, Replayed, PrintsEarlier, HasOpened, InDoubt, text_of, Reports, Replays, PrintedNow, to_since, Job, Status, status_of_replay, Call, Given, call, TellsStore, StillTold, FailsOnlyCounted, way_of, DidBy, JobHasRun, HasRunFrom, DoubtStands, Happened, HappenedTo, IsOfStart, RanJob, RunsFrom, put_by, names_of, job_desk, ◌≡◌, ◌⊎◌, ℕ, ◌+◌, ◌%◌, ◌^◌, inl, inr, Bool, true, false, List, [], ◌∷◌, ◌++◌, length, take, refl, sym, ◌∙◌, ap, subst, arith, append-nil, Option, Some, None, opening, span, Opening, Span, end_of, lines_of, opening_of, report_of, report_lines_of, IfInDoubt, job_opening, fixed_of, TellsBy, ByOpening, PutJob, TellsJob}
+use Rattle.job_calls.proofs.Common.{Result, Ok, Err, IsErr, IsSome, IsTrue, unwrap_or, Ghosts, Failed, Prints, Rose, Elapses, OnlyAsks, FewerLater, Leaves, held_of, elapses-trans, leaves_on, FlatStore, Activation, serial, header_of, most_lines, Standing, Stands, stands, Event, Desk, opened, Word, Doubt, run, faulted, IsRunOf, Line, line_text, Open, number_after, begun, IsSerial, IsSessionOpened, activity, session_desk, order_of, SessionState, ghosts, Replayed, PrintsEarlier, HasOpened, InDoubt, text_of, Reports, Replays, PrintedNow, to_since, Job, Status, status_of_replay, Call, Given, call, TellsStore, StillTold, FailsOnlyCounted, way_of, DidBy, JobHasRun, HasRunFrom, DoubtStands, Happened, HappenedTo, IsOfStart, RanJob, RunsFrom, put_by, names_of, job_desk, ◌≡◌, ◌⊎◌, ℕ, ◌+◌, ◌%◌, ◌^◌, inl, inr, Bool, true, false, List, [], ◌∷◌, ◌++◌, length, take, refl, sym, ◌∙◌, ap, subst, arith, append-nil, Option, Some, None, opening, span, Opening, Span, end_of, lines_of, opening_of, report_of, report_lines_of, IfInDoubt, job_opening, fixed_of, TellsBy, ByOpening, PutJob, TellsJob}
 use Rattle.std.proofs.lemmas.Bool.{cases_lt}
 use Rattle.outside.proofs.Prints.{prints_well, prints_broken}
 use Rattle.store.specs.KeptStore.{number_of}
@@ -28,7 +28,7 @@ same-store : (one two : ℕ) (first second : FlatStore) → Stands one first ≡
 same-store one two first second is = cc
 
 -- a desk opened on the bytes of a disk
-module _ {W : Type 0} (G : Ghosts W) (frames : ℕ) (before start : W) (desk : Session) (opens : IsSessionOpened G frames before start desk) (asks : OnlyAsks G before start) where
+module _ {W : Type 0} (G : Ghosts W) (frames : ℕ) (before start : W) (desk : SessionState) (opens : IsSessionOpened G frames before start desk) (asks : OnlyAsks G before start) where
   abbrev pub first_desk : Desk
   first_desk = opened frames 16 (most_lines desk.store.header) opens.store
 
@@ -48,7 +48,7 @@ module _ {W : Type 0} (G : Ghosts W) (frames : ℕ) (before start : W) (desk : S
   has-opened = record { sure = opens.sure; shows = opens.shows; number = number-fits }
 
 -- a run of the first of events from an opening, without what was put
-pub record RanFrom {W : Type 0} (G : Ghosts W) (begins : Opening) (events : List Event) (new : Session) (span : Span W) : Type 0 where
+pub record RanFrom {W : Type 0} (G : Ghosts W) (begins : Opening) (events : List Event) (new : SessionState) (span : Span W) : Type 0 where
   pub taken : List (Event × Word)
   pub rest : List Event
   pub is_run : IsRunOf begins.programs events begins.start taken rest
@@ -56,7 +56,7 @@ pub record RanFrom {W : Type 0} (G : Ghosts W) (begins : Opening) (events : List
   pub images : Leaves G (λ image seen. IsStage begins.programs begins.number begins.start taken image) span.before span.after
   pub doubt : IfInDoubt taken (end_of begins taken).closed (λ front event. InDoubt G begins front event span.after)
 
-module _ {W : Type 0} (G : Ghosts W) (fewer_later : FewerLater G) (printed_now : PrintedNow G) (job : Job) (before start after : W) (desk new : Session) (number : ℕ) (store : FlatStore)
+module _ {W : Type 0} (G : Ghosts W) (fewer_later : FewerLater G) (printed_now : PrintedNow G) (job : Job) (before start after : W) (desk new : SessionState) (number : ℕ) (store : FlatStore)
     (standing : TellsStore G before number store) (opens : IsSessionOpened G job.frames before start desk) (asks : OnlyAsks G before start) (programs_are : (activity desk).programs ≡ job.programs.items) (same_opened : new.opened ≡ desk.opened)
     (same_honest : G.is_honest after ≡ G.is_honest start) (time : Elapses G.moment G.left_since start after) (asks-calm : G.disk_faults start ≡ G.disk_faults before) where
   abbrev pub begins_with : Desk
@@ -229,7 +229,7 @@ pub told-since : {W : Type 0} (G : Ghosts W) (before start : W) → OnlyAsks G b
 told-since G before start asks told = subst (λ (those : Option (List ℕ)). IsSome those) (sym asks.held) told
 
 -- what was replayed on a desk that was opened, by how that ended
-module _ {W : Type 0} (G : Ghosts W) (fewer_later : FewerLater G) (printed_now : PrintedNow G) (job : Job) (before start after : W) (desk new : Session)
+module _ {W : Type 0} (G : Ghosts W) (fewer_later : FewerLater G) (printed_now : PrintedNow G) (job : Job) (before start after : W) (desk new : SessionState)
     (opens : IsTrue (G.is_honest before) → IsSome (G.held before) → IsSessionOpened G job.frames before start desk) (asks : OnlyAsks G before start) (programs_are : (activity desk).programs ≡ job.programs.items) (same_opened : new.opened ≡ desk.opened)
     (same_honest : G.is_honest after ≡ G.is_honest start) (time : Elapses G.moment G.left_since start after) (still : StillTold G start after) (asks-calm : G.disk_faults start ≡ G.disk_faults before)
     (result : Replayed) (replays : (first : Desk) → HasOpened ghosts G desk start first → Replays ghosts G (opening_of (names_of job) (fixed_of desk) first) job.events.items new (span start after) result) where
@@ -266,19 +266,19 @@ module _ {W : Type 0} (G : Ghosts W) (fewer_later : FewerLater G) (printed_now :
   }
 
 -- what running did, as something else that it did
-did-as : {W : Type 0} (G : Ghosts W) (ran other : Type 0) (c : Call W) (session : Option Session) (now : Status) → (ran → other) → DidBy G ran c session now → DidBy G other c session now
+did-as : {W : Type 0} (G : Ghosts W) (ran other : Type 0) (c : Call W) (session : Option SessionState) (now : Status) → (ran → other) → DidBy G ran c session now → DidBy G other c session now
 did-as G ran other c session status.Done turns did = turns did
 did-as G ran other c session status.PutFault turns did = turns did
 did-as G ran other c (Some session) status.DiskFault turns did = turns did
 did-as G ran other c session _ turns did = did
 
 -- what follows where a session was opened
-opening-as : (session : Option Session) (one other none : Type 0) → (one → other) → ByOpening session one none → ByOpening session other none
+opening-as : (session : Option SessionState) (one other none : Type 0) → (one → other) → ByOpening session one none → ByOpening session other none
 opening-as (Some session) one other none turns is = turns is
 opening-as None one other none turns is = is
 
 -- what happened to the job of a text
-pub happens : {W : Type 0} (G : Ghosts W) (text : List ℕ) (job : Job) (from : Given) (c : Call W) (session : Option Session) → IsWhole from.left from.left_now text → job_of text ≡ Ok (content_of job) → HappenedTo G job c session → HandedRuns job.programs.items session → Happened G from c session
+pub happens : {W : Type 0} (G : Ghosts W) (text : List ℕ) (job : Job) (from : Given) (c : Call W) (session : Option SessionState) → IsWhole from.left from.left_now text → job_of text ≡ Ok (content_of job) → HappenedTo G job c session → HandedRuns job.programs.items session → Happened G from c session
 happens G text job from c session whole means did runs =
     record {
       honest = did.honest;

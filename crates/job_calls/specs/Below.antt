@@ -18,4 +18,4 @@ pub use Rattle.outside.specs.Runs.{held_of, Leaves, OnlyAsks}
 pub use Rattle.outside.specs.declared.world.Outside.{Ghosts}
 pub use Rattle.schedule_replay.specs.Asked.{begins_in}
 pub use Rattle.schedule_replay.specs.declared.events.Replayed.{Replayed}
-pub use Rattle.supervisor.specs.declared.session.Session.{Session}
+pub use Rattle.supervisor.specs.declared.session.SessionState.{SessionState}

@@ -1,7 +1,7 @@
 -- What a load of transfers did: one run of the desk over its events, with one line in place of a report.
 use Rattle.std.specs.Prelude.{◌≡◌, ◌≢◌, ℕ, true, false, List, [], ◌∷◌, codes, decimal, count_by, Option, None, Some}
 use Rattle.std.specs.List.{fold}
-use Rattle.job_calls.specs.Below.{begun, Call, Elapses, FlatStore, Ghosts, is_commit, IsBigJob, Job, Line, printed, Puts, PutsTimes, serial_lines, Session, spaced, Status, StillTold, TellsStore, WentThrough}
+use Rattle.job_calls.specs.Below.{begun, Call, Elapses, FlatStore, Ghosts, is_commit, IsBigJob, Job, Line, printed, Puts, PutsTimes, serial_lines, SessionState, spaced, Status, StillTold, TellsStore, WentThrough}
 use Rattle.schedule_replay.specs.declared.quietly.Quiet.{Quiet}
 use Rattle.schedule_replay.specs.declared.quietly.Quiet.TheVariants as quiet
 use Rattle.schedule_replay.specs.Quiet.{is_rollback, out_after}
@@ -27,7 +27,7 @@ line_for transfers lines = big_line transfers (count_by is_commit lines) (count_
 
 -- The job of a load was run from the store that the disk stood for, with a line in place of the report. At Done and at PutFault all events were run, and its
 -- line was put, or a prefix of it; what it tells of the last commit is what the last commit prints where the programs run one after another.
-pub record HasBigRun {W : Type 0} (G : Ghosts W) (transfers : ℕ) (job : Job) (number : ℕ) (store : FlatStore) (call : Call W) (session : Option Session) : Type 0 where
+pub record HasBigRun {W : Type 0} (G : Ghosts W) (transfers : ℕ) (job : Job) (number : ℕ) (store : FlatStore) (call : Call W) (session : Option SessionState) : Type 0 where
   pub ran : RunsFrom G job number store call
   pub answered : session ≡ Some ran.session
   pub all : WentThrough call.status → ran.rest ≡ []
@@ -43,14 +43,14 @@ IsToldBy G transfers (quiet.Ended commits rollbacks) last call =
 IsToldBy G transfers quiet.Closed last call = (call.status ≡ Status.DiskFault) × (call.after ≡ call.before)
 
 -- the events of the load were run, from whatever number and store the disk stood for; the session runs its programs
-pub record RanBig {W : Type 0} (G : Ghosts W) (transfers : ℕ) (call : Call W) (session : Option Session) : Type 0 where
+pub record RanBig {W : Type 0} (G : Ghosts W) (transfers : ℕ) (call : Call W) (session : Option SessionState) : Type 0 where
   pub job : Job
   pub is_load : IsBigJob transfers job
   pub has_run : (number : ℕ) (store : FlatStore) → TellsStore G call.before number store → HasBigRun G transfers job number store call session
   pub runs : HandedRuns job.programs.items session
 
 -- what a load did, by its status; a disk fault comes in the opening or in an event, damage in the opening alone, and other statuses don't come
-abbrev pub LoadedBy : {W : Type 0} → Ghosts W → ℕ → Call W → Option Session → Status → Type 0
+abbrev pub LoadedBy : {W : Type 0} → Ghosts W → ℕ → Call W → Option SessionState → Status → Type 0
 LoadedBy G transfers call session status.Done = RanBig G transfers call session × PutsOnce G call.before call.after
 LoadedBy G transfers call session status.PutFault = RanBig G transfers call session
 LoadedBy G transfers call session status.DiskFault = ByOpening session (RanBig G transfers call session) (Untouched G call) × (G.printed call.after ≡ G.printed call.before)
@@ -60,7 +60,7 @@ LoadedBy G transfers call session _ = ⊥
 
 -- what a load did, whatever stands on the disk: it is as honest as it was and time elapsed, bytes that were told are told, the screen's
 -- count of faults rises with PutFault alone, and what the bytes tell of its status
-pub record Loaded {W : Type 0} (G : Ghosts W) (transfers : ℕ) (call : Call W) (session : Option Session) : Type 0 where
+pub record Loaded {W : Type 0} (G : Ghosts W) (transfers : ℕ) (call : Call W) (session : Option SessionState) : Type 0 where
   pub honest : G.is_honest call.after ≡ G.is_honest call.before
   pub time : Elapses G.moment G.left_since call.before call.after
   pub told : StillTold G call.before call.after

@@ -1,6 +1,6 @@
 -- What a call of the console did: the run of the desk that its report tells of and what a crash leaves of it, or nothing.
 use Rattle.std.specs.Prelude.{◌≡◌, ◌≢◌, ◌⊎◌, ℕ, ◌+◌, ◌%◌, ◌^◌, true, false, List, [], ◌++◌, length, map, take, slice_set, Option, None, Some, IsSome, Result, Ok, Err}
-use Rattle.job_calls.specs.Below.{begun, Call, call, Elapses, FlatStore, Ghosts, Given, given, held_of, IsFaultAt, IsOfStart, IsSerial, Job, Leaves, Line, line_text, OnlyAsks, Open, order_told, Replayed, Session, Status, StillTold, TellsStore, FaultsBy, ReadFaultsBy}
+use Rattle.job_calls.specs.Below.{begun, Call, call, Elapses, FlatStore, Ghosts, Given, given, held_of, IsFaultAt, IsOfStart, IsSerial, Job, Leaves, Line, line_text, OnlyAsks, Open, order_told, Replayed, SessionState, Status, StillTold, TellsStore, FaultsBy, ReadFaultsBy}
 use Rattle.outside.specs.declared.failed.Failed.{Failed}
 use Rattle.outside.specs.declared.source.Source as source
 use Rattle.outside.specs.Bytes.{Prints}
@@ -75,7 +75,7 @@ pub record RunsFrom {W : Type 0} (G : Ghosts W) (job : Job) (number : ℕ) (stor
   pub names : List (List ℕ)
   pub lines : List Line
   pub lines_are : lines ≡ lines_of (job_opening names job number (held_of G call.before) store) taken
-  pub session : Session
+  pub session : SessionState
   pub to : RanTo ghosts G end lines (faulted taken) session (span call.before call.after)
   -- all words are fine where the disk's faults didn't rise
   pub all_fine : (¬ (Rose (G.disk_faults call.before) (G.disk_faults call.after))) → faulted taken ≡ 0
@@ -90,7 +90,7 @@ pub record RunsFrom {W : Type 0} (G : Ghosts W) (job : Job) (number : ℕ) (stor
 
 -- The job was run from the store that the disk stood for, and the report of the run is printed: to the byte, or after a failed put a prefix of it with
 -- the first line and those of all events but the last.
-pub record JobHasRun {W : Type 0} (G : Ghosts W) (job : Job) (number : ℕ) (store : FlatStore) (call : Call W) (session : Option Session) : Type 0 where
+pub record JobHasRun {W : Type 0} (G : Ghosts W) (job : Job) (number : ℕ) (store : FlatStore) (call : Call W) (session : Option SessionState) : Type 0 where
   pub ran : RunsFrom G job number store call
   pub named : ran.names ≡ names_of job
   pub answered : session ≡ Some ran.session
@@ -109,7 +109,7 @@ pub record JobHasRun {W : Type 0} (G : Ghosts W) (job : Job) (number : ℕ) (sto
       call.before call.after
 
 -- the job was run, from whatever number and store the disk stood for
-abbrev pub HasRunFrom : {W : Type 0} → Ghosts W → Job → Call W → Option Session → Type 0
+abbrev pub HasRunFrom : {W : Type 0} → Ghosts W → Job → Call W → Option SessionState → Type 0
 HasRunFrom G job call session = (number : ℕ) (store : FlatStore) → TellsStore G call.before number store → JobHasRun G job number store call session
 
 -- a disk that stood for a store isn't found damaged
@@ -117,7 +117,7 @@ abbrev pub StoodForNone : {W : Type 0} → Ghosts W → W → Type 0
 StoodForNone G before = (number : ℕ) (store : FlatStore) → ¬ (TellsStore G before number store)
 
 -- the text was had whole, and means a job whose events were run; the session runs its programs
-pub record RanJob {W : Type 0} (G : Ghosts W) (given : Given) (call : Call W) (session : Option Session) : Type 0 where
+pub record RanJob {W : Type 0} (G : Ghosts W) (given : Given) (call : Call W) (session : Option SessionState) : Type 0 where
   pub text : List ℕ
   pub whole : IsWhole given.left given.left_now text
   pub job : Job
@@ -153,12 +153,12 @@ pub record FoundNoStore {W : Type 0} (G : Ghosts W) (call : Call W) (offset : �
   pub fault : IsSome (G.held call.before) → IsFaultAt (held_of G call.before) offset
 
 -- the first where a session was opened, and the second where the call was refused before
-abbrev pub ByOpening : Option Session → Type 0 → Type 0 → Type 0
+abbrev pub ByOpening : Option SessionState → Type 0 → Type 0 → Type 0
 ByOpening (Some session) opened refused = opened
 ByOpening None opened refused = refused
 
 -- what a call did, by its status, where this is what running its events did; a disk fault and damage come in the opening or in an event
-abbrev pub DidBy : {W : Type 0} → Ghosts W → (ran : Type 0) → Call W → Option Session → Status → Type 0
+abbrev pub DidBy : {W : Type 0} → Ghosts W → (ran : Type 0) → Call W → Option SessionState → Status → Type 0
 DidBy G ran call session status.Done = ran
 DidBy G ran call session status.PutFault = ran
 DidBy G ran call session status.DiskFault = ByOpening session ran (Untouched G call)
@@ -168,7 +168,7 @@ DidBy G ran call session _ = Refused G call
 -- What a call did on an outside, whatever stands on it, where this is what running its events did, and this what is told of them: the disk is as honest as
 -- it was and time elapsed, bytes that were told are told, the screen's count of faults rises with PutFault alone, also behind the event that closed the desk,
 -- and the rest is by its status.
-pub record DidOn {W : Type 0} (G : Ghosts W) (ran tells : Type 0) (call : Call W) (session : Option Session) : Type 0 where
+pub record DidOn {W : Type 0} (G : Ghosts W) (ran tells : Type 0) (call : Call W) (session : Option SessionState) : Type 0 where
   pub honest : G.is_honest call.after ≡ G.is_honest call.before
   pub time : Elapses G.moment G.left_since call.before call.after
   pub told : StillTold G call.before call.after
@@ -177,11 +177,11 @@ pub record DidOn {W : Type 0} (G : Ghosts W) (ran tells : Type 0) (call : Call W
   pub put_lines : ByOpening session tells (Unit {0})
 
 -- what a call did with the job of its source
-abbrev pub Happened : {W : Type 0} → Ghosts W → Given → Call W → Option Session → Type 0
+abbrev pub Happened : {W : Type 0} → Ghosts W → Given → Call W → Option SessionState → Type 0
 Happened G given call session = DidOn G (RanJob G given call session) (PutJob G given call) call session
 
 -- the same for a job that is given
-abbrev pub HappenedTo : {W : Type 0} → Ghosts W → Job → Call W → Option Session → Type 0
+abbrev pub HappenedTo : {W : Type 0} → Ghosts W → Job → Call W → Option SessionState → Type 0
 HappenedTo G job call session = DidOn G (HasRunFrom G job call session) (TellsJob G job call) call session
 
 -- A call ran a job that is given, as it ended: what the bytes tell of its status, what it did, the programs of the session that is handed on, and that.

@@ -20,12 +20,12 @@ module _ {D W : Type 0} (S : desk.Ghosts D) (G : Ghosts W) (fewer_later : FewerL
   answered_on xs ys old mid new before between after value result one two = grind (arith, begins_split xs ys, turns_split xs ys, (elapses-trans G fewer_later before between after one.time two.time), cause_since (G.put_faults before) (G.put_faults between) (G.put_faults after) value result one.cause two.cause)
 
   -- nothing was answered yet
-  pub answered_none : (desk : D) (w : W) → S.sound desk → HoldsStore G (S.told desk).fixed.header w → Answered S G [] desk desk w w done
-  answered_none desk w sound bytes = grind (arith, nat_tests)
+  pub answered_none : (desk : D) (w : W) → HoldsStore G (S.told desk).fixed.header w → Answered S G [] desk desk w w done
+  answered_none desk w bytes = grind (arith, nat_tests)
 
   -- lines were put
-  pub answered_puts : {T : Type 0} (lines : List Line) (desk : D) (before after : W) (result : Result T Failed) → S.sound desk → HoldsStore G (S.told desk).fixed.header before → Puts G lines before after result → Answered S G [] desk desk before after result
-  answered_puts lines desk before after result sound bytes puts = grind (arith, nat_tests)
+  pub answered_puts : {T : Type 0} (lines : List Line) (desk : D) (before after : W) (result : Result T Failed) → HoldsStore G (S.told desk).fixed.header before → Puts G lines before after result → Answered S G [] desk desk before after result
+  answered_puts lines desk before after result bytes puts = grind (arith, nat_tests)
 
   pub answered_then : {T U : Type 0} (events : List Event) (lines : List Line) (old new : D) (before between after : W) (value : T) (result : Result U Failed) → Answered S G events old new before between (Ok value) → Puts G lines between after result → Answered S G events old new before after result
   answered_then events lines old new before between after value result one puts =

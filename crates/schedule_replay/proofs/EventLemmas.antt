@@ -63,9 +63,9 @@ module _ {D W : Type 0} (S : desk.Ghosts D) (G : Ghosts W) where
   pub store_asked : (old new : D) (before after : W) → (S.told new).fixed ≡ (S.told old).fixed → OnlyAsks G before after → HoldsStore G (S.told old).fixed.header before → CallsStore G (S.told new).fixed.header before after
   store_asked old new before after fixed asks bytes = grind (arith, nat_tests)
 
-  answered_event : (fewer_later : FewerLater G) {T : Type 0} (events : List Event) (lines : List Line) (old new : D) (before between after : W) (result : Result T Failed) → S.sound new → ToldAfter events (S.told old) (S.told new)
+  answered_event : (fewer_later : FewerLater G) {T : Type 0} (events : List Event) (lines : List Line) (old new : D) (before between after : W) (result : Result T Failed) → ToldAfter events (S.told old) (S.told new)
       → CallsStore G (S.told new).fixed.header before between → Puts G lines between after result → Answered S G events old new before after result
-  answered_event fewer_later events lines old new before between after result sound tells store puts = grind (arith, nat_tests)
+  answered_event fewer_later events lines old new before between after result tells store puts = grind (arith, nat_tests)
 
   pub goes_if : (shut fails : Bool) {told same : Type 0} (old new : D) (before between after : W) → (S.told new).closed ≡ shut → StaysShut (S.told old).closed told same → (shut ≡ true → fails ≡ false → told) → FailsCounted fails (G.disk_faults before) (G.disk_faults between)
       → G.disk_faults after ≡ G.disk_faults between → GoesBy S G old new before after (going_if shut)
@@ -128,14 +128,14 @@ module _ {D W : Type 0} (S : desk.Ghosts D) (G : Ghosts W) where
   pub went_event : (fewer_later : FewerLater G) (printed_now : PrintedNow G) (law : ShownTold S)
       {T : Type 0} (names : List (List ℕ)) (are : AreNames names) (event one : Event) (lines : List Line) (old new : D) (before between after : W) (put : Result T Failed) (way told : Going) (result : Result Going Failed)
       → event ≡ one → way ≡ told → result ≡ result_and put (Ok way) → Puts G lines between after put
-      → S.sound new → ToldAfter (one ∷ []) (S.told old) (S.told new) → CallsStore G (S.told new).fixed.header before between
+      → ToldAfter (one ∷ []) (S.told old) (S.told new) → CallsStore G (S.told new).fixed.header before between
       → ((S.told old).closed ≡ true → told ≡ going.Closed) → (S.told new).closed ≡ is_closed told → (G.disk_faults after ≡ G.disk_faults between → G.held after ≡ G.held between → GoesBy S G old new before after told)
       → ((start : Desk) → IsSure G before → S.shows old (held_of G before) start → WasStep S G (opening_of names (S.told old).fixed start) one lines new (span before between) × (is_damaged told ≡ false))
       → AreLinesOf names (one ∷ []) lines (S.told old).order (S.told new).order → WentBy S G names event old new (span before after) result
-  went_event fewer_later printed_now law {T} names are event one lines old new before between after put way told result is_one is is_and puts sound tells store shut closed goes went told_of =
+  went_event fewer_later printed_now law {T} names are event one lines old new before between after put way told result is_one is is_and puts tells store shut closed goes went told_of =
       subst (λ (e : Event). WentBy S G names e old new (span before after) result) (sym is_one)
       (subst (λ (how : Result Going Failed). WentBy S G names one old new (span before after) how) (sym is_and) (record {
-        answered = answered_event fewer_later (one ∷ []) lines old new before between after _ sound tells store all;
+        answered = answered_event fewer_later (one ∷ []) lines old new before between after _ tells store all;
         goes = if_ok_and (GoesBy S G old new before after) (goes puts.only.disk puts.only.held) put;
         shut = λ was. if_ok_and (λ how. how ≡ going.Closed) (shut was) put;
         ran = λ start sure shows.

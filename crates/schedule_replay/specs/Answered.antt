@@ -13,7 +13,6 @@ use Rattle.desk.specs.Seen.{IsUnbroken}
 
 -- a supervisor that these events may be asked of, one after another
 pub record IsReady {D W : Type 0} (S : desk.Ghosts D) (G : Ghosts W) (events : List Event) (desk : D) (outside : W) : Type 0 where
-  pub sound : S.sound desk
   pub asked : All (IsAsked (length (S.told desk).fixed.programs)) events
   pub begins : (S.told desk).given + begins_in events ≤ (S.told desk).fixed.begins
   pub turns : (S.told desk).turns + turns_in events ≤ 2 ^ 32
@@ -33,7 +32,6 @@ pub record ToldAfter (events : List Event) (old new : Told) : Type 0 where
 
 -- events were asked, and lines put: what the supervisor keeps and tells, and what the outside keeps
 pub record Answered {D W : Type 0} (S : desk.Ghosts D) (G : Ghosts W) (events : List Event) (old new : D) (before after : W) {T : Type 0} (result : Result T Failed) : Type 0 where
-  pub sound : S.sound new
   pub tells : ToldAfter events (S.told old) (S.told new)
   pub bytes : HoldsStore G (S.told new).fixed.header after
   pub honest : G.is_honest after ≡ G.is_honest before

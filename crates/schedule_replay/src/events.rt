@@ -84,7 +84,6 @@ fn put_closing<S: Supervisor, W: Outside>(
     reporter: &mut Reporter,
     outside: &mut W,
 ) -> Result<(), Failed>
-    requires sound { S.sound desk.now }
     ensures { PutsClosing S.Supervisor W.Outside desk.now outside.old outside.new result }
 {
     let left = desk.active();

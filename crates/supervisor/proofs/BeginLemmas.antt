@@ -1,5 +1,5 @@
 -- What a begin leaves of a session.
-use Rattle.supervisor.proofs.Common.{◌≡◌, ℕ, ◌+◌, ◌-◌, ◌*◌, ◌<◌, ◌≤◌, List, [], ◌∷◌, length, refl, sym, ◌∙◌, ap, subst, arith, Option, Some, None, length-append, newcomer, next_seat, Begun, begun_told, Desk, Fine, Step, absent_segment, step, Activity, program_at, desk_over, IsBegin, begins, begins_by, KeepsDesk, AreRowsWithin, Session, IsSound, activity, fixed_of, session_desk, session_told, order_of, ShowsDesk}
+use Rattle.supervisor.proofs.Common.{◌≡◌, ℕ, ◌+◌, ◌-◌, ◌*◌, ◌<◌, ◌≤◌, List, [], ◌∷◌, length, refl, sym, ◌∙◌, ap, subst, arith, Option, Some, None, length-append, newcomer, next_seat, Begun, begun_told, Desk, Fine, Step, absent_segment, step, Activity, program_at, desk_over, IsBegin, begins, begins_by, KeepsDesk, AreRowsWithin, SessionState, IsSound, activity, fixed_of, session_desk, session_told, order_of, ShowsDesk}
 use Rattle.activations.proofs.SittingLemmas.{sitter-there, sitter-other}
 use Rattle.desk.specs.declared.event.Event.TheVariants as event
 use Rattle.activations.specs.Follows as running
@@ -26,11 +26,11 @@ module _ (a : Activity) (program : ℕ) (args : List ℕ) (sixteen : length a.se
   begins-given = given-by (next_seat a.seating) (absent_segment a.reach.directory (program_at a.programs program).windows)
 
 -- a session whose activations are others
-abbrev pub with_activations : Session → Activity → Session
+abbrev pub with_activations : SessionState → Activity → SessionState
 with_activations s activations = record s { activations = activations }
 
 -- A program began in a session.
-module _ (s : Session) (new : Activity) (program : ℕ) (args : List ℕ) (sound : IsSound s) (left : new ≡ (begins (activity s) program args).1) where
+module _ (s : SessionState) (new : Activity) (program : ℕ) (args : List ℕ) (sound : IsSound s) (left : new ≡ (begins (activity s) program args).1) where
   given : HasGiven (activity s) new
   given = subst (HasGiven (activity s)) (sym left) (begins-given (activity s) program args sound.running.sound.seating.sixteen)
 

@@ -1,5 +1,5 @@
 -- Why a begin is answered so, and where a turn closes.
-use Rattle.supervisor.proofs.Common.{◌≡◌, ◌≤◌, ℕ, length, arith, sym, subst, List, Option, Some, None, refl, true, has, Ghosts, FewerLater, OnlyAsks, asks_none, asks_on, Kept, begun_of, KeptStore, with_begun, next_seat, number_in, few-taken, Header, total, OnlyWrites, HoldsStore, Begun, TurnEnd, CallsStore, FailsCounted, turn_fails, Activity, begins, begins_by, Tally, IsEndOfRows, IfJournal, Session, activity, IsBeginAnswer, lacking, TellsNumber, IsTurnEnd, answer_of, IsFailedCommit, ClosesInCommit, LeavesStore, IsCommitEnd}
+use Rattle.supervisor.proofs.Common.{◌≡◌, ◌≤◌, ℕ, length, arith, sym, subst, List, Option, Some, None, refl, true, has, Ghosts, FewerLater, OnlyAsks, asks_none, asks_on, Kept, begun_of, KeptStore, with_begun, next_seat, number_in, few-taken, Header, total, OnlyWrites, HoldsStore, Begun, TurnEnd, CallsStore, FailsCounted, turn_fails, Activity, begins, begins_by, Tally, IsEndOfRows, IfJournal, SessionState, activity, IsBeginAnswer, lacking, TellsNumber, IsTurnEnd, answer_of, IsFailedCommit, ClosesInCommit, LeavesStore, IsCommitEnd}
 use Rattle.seats.proofs.Ascending.{none-free}
 use Rattle.activations.specs.Recorded.{IsRecordOf}
 use Rattle.activations.proofs.BeginLemmas.{some-next}
@@ -38,13 +38,13 @@ pub commit-told : (activation limit most number : ℕ) (tally : Tally) (ends : T
 commit-told activation limit most number tally ends few is journal numbered = grind arith
 
 -- the commit of who sits in a seat failed, from this very moment on
-pub closes-now : {W : Type 0} (G : Ghosts W) (s n : Session) (seat : ℕ) (answer : Kept) (store : KeptStore) (before after : W) → has (activity s).seating.taken seat ≡ true → activity n ≡ activity s
+pub closes-now : {W : Type 0} (G : Ghosts W) (s n : SessionState) (seat : ℕ) (answer : Kept) (store : KeptStore) (before after : W) → has (activity s).seating.taken seat ≡ true → activity n ≡ activity s
     → store ≡ with_begun s.store (begun_of store.bank) → IsRecordOf (activity s) seat (begun_of store.bank) → IsFailedCommit G answer store n.store before after
     → ClosesInCommit G (number_in (activity s).seating seat) answer s.store n before after
 closes-now G s n seat answer store before after taken same begun recorded failed = grind (arith, same, taken, asks_none G before, recorded, begun, failed)
 
 -- and the disk was only asked before it
-module _ {W : Type 0} (G : Ghosts W) (fewer_later : FewerLater G) (activation : ℕ) (store : KeptStore) (new : Session) (before between after : W) (asks : OnlyAsks G before between) (calm : G.disk_faults between ≡ G.disk_faults before) where
+module _ {W : Type 0} (G : Ghosts W) (fewer_later : FewerLater G) (activation : ℕ) (store : KeptStore) (new : SessionState) (before between after : W) (asks : OnlyAsks G before between) (calm : G.disk_faults between ≡ G.disk_faults before) where
   closes-later : (answer : Kept) → ClosesInCommit G activation answer store new between after → ClosesInCommit G activation answer store new before after
   closes-later answer closes = grind (arith, asks_on G fewer_later before between closes.begun asks closes.asks, closes, calm)
 

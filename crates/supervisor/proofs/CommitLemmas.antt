@@ -1,5 +1,5 @@
 -- The commit of a session is one of the desk, and what the disk holds in it.
-use Rattle.supervisor.proofs.Common.{◌≡◌, ◌⊎◌, inl, inr, ⊎_elim, ℕ, ◌+◌, ◌%◌, ◌^◌, ◌<◌, ◌≤◌, List, [], ◌∷◌, ◌++◌, refl, sym, ◌∙◌, ap, arith, Option, Some, length-append, map-append, FlatStore, has, Plain, after, Ghosts, Rose, IsSure, Leaves, held_of, RecordLine, Stands, stands, one_more, laid, IsMoreBy, journal_in, journal_with, KeptStore, number_of, with_begun, TracksStore, Committed, order_told, standing_of, Desk, Fine, Doubt, Unwritten, Over, ordered, WritesMore, number_after, committed_at, sitter, number_in, Activity, live_in, program_in, entry_in, store_over, desk_over, Live, KeepsDesk, rolled, tally_counts, commit_call, Tally, Session, IsSound, activity, order_of, session_desk, IsOpenOver, HasCommitted, IsEitherSide, fine_desk, shows_begun, nat_tests, ◌==◌, not, filter, None, true, false, vec_len, vec_capacity, slice_set, IsEither, fewer}
+use Rattle.supervisor.proofs.Common.{◌≡◌, ◌⊎◌, inl, inr, ⊎_elim, ℕ, ◌+◌, ◌%◌, ◌^◌, ◌<◌, ◌≤◌, List, [], ◌∷◌, ◌++◌, refl, sym, ◌∙◌, ap, arith, Option, Some, length-append, map-append, FlatStore, has, Plain, after, Ghosts, Rose, IsSure, Leaves, held_of, RecordLine, Stands, stands, one_more, laid, IsMoreBy, journal_in, journal_with, KeptStore, number_of, with_begun, TracksStore, Committed, order_told, standing_of, Desk, Fine, Doubt, Unwritten, Over, ordered, WritesMore, number_after, committed_at, sitter, number_in, Activity, live_in, program_in, entry_in, store_over, desk_over, Live, KeepsDesk, rolled, tally_counts, commit_call, Tally, SessionState, IsSound, activity, order_of, session_desk, IsOpenOver, HasCommitted, IsEitherSide, fine_desk, shows_begun, nat_tests, ◌==◌, not, filter, None, true, false, vec_len, vec_capacity, slice_set, IsEither, fewer}
 use Rattle.lines.proofs.SetLemmas.{has-filter}
 use Rattle.frame_pool.specs.declared.model.Pool.{Pool}
 use Rattle.supervisor.proofs.DesertedLemmas.{sound-same}
@@ -30,7 +30,7 @@ gone taken seat = let is = has-filter (λ other. not (other == seat)) taken seat
 
 -- What became of a session when who sat in a seat left it: parts are as before, there is a place less to keep in the order, and
 -- one commit more in it perhaps.
-pub record HasLeft (old new : Session) (seat : ℕ) (pool : Pool) (commits : ℕ) : Type 0 where
+pub record HasLeft (old new : SessionState) (seat : ℕ) (pool : Pool) (commits : ℕ) : Type 0 where
   pub header : new.store.header ≡ old.store.header
   pub running : running.AlwaysHolds (activity new)
   pub live : List Live
@@ -44,7 +44,7 @@ pub record HasLeft (old new : Session) (seat : ℕ) (pool : Pool) (commits : ℕ
   pub room : vec_capacity old.order ≤ vec_capacity new.order
 
 -- a session at the commit call of a taken seat
-module _ (s : Session) (seat : ℕ) (sound : IsSound s) (taken : has (activity s).seating.taken seat ≡ true) where
+module _ (s : SessionState) (seat : ℕ) (sound : IsSound s) (taken : has (activity s).seating.taken seat ≡ true) where
   -- there were fewer commits than begins
   pub fewer-commits : s.closed ≡ false → vec_len s.order < s.begins
   fewer-commits still =
@@ -57,14 +57,14 @@ module _ (s : Session) (seat : ℕ) (sound : IsSound s) (taken : has (activity s
   has_place still = let some = fewer-commits still in omega (arith, some, sound.room.order)
 
   -- he has left, whether with a commit or not
-  pub sound-left : (n : Session) (pool : Pool) (commits : ℕ) → s.closed ≡ false → HasLeft s n seat pool commits → IsSound n
+  pub sound-left : (n : SessionState) (pool : Pool) (commits : ℕ) → s.closed ≡ false → HasLeft s n seat pool commits → IsSound n
   sound-left n pool commits open_before left =
       let some = fewer-commits open_before in
       let others = fewer (activity s).seating.taken seat taken in
       grind (arith, sound, sound.room, left, some, others)
 
   -- it closes, and all else that runs is as before
-  pub sound-closed : (n : Session) → n.store.header ≡ s.store.header → activity n ≡ activity s → n.begins ≡ s.begins → n.turns ≡ s.turns → n.closed ≡ true → vec_capacity s.order ≤ vec_capacity n.order → s.closed ≡ false → vec_len n.order ≤ vec_len s.order + 1 → IsSound n
+  pub sound-closed : (n : SessionState) → n.store.header ≡ s.store.header → activity n ≡ activity s → n.begins ≡ s.begins → n.turns ≡ s.turns → n.closed ≡ true → vec_capacity s.order ≤ vec_capacity n.order → s.closed ≡ false → vec_len n.order ≤ vec_len s.order + 1 → IsSound n
   sound-closed n header is begins turns closed room open_before longer =
       let some = fewer-commits open_before in
       sound-same s n sound header is begins turns room (omega (arith, some, longer)) (λ still. absurd (cc (closed, still)))
@@ -75,7 +75,7 @@ pub out-is : (a : Activity) (seat : ℕ) (committed : List ℕ) (now : Plain) �
 out-is a seat committed now taken follows at = grind (arith, (follows.kept.stand seat taken).at)
 
 -- a commit over committed bytes, at a state, whose record gives what it commits
-module _ {W : Type 0} (G : Ghosts W) (s : Session) (seat : ℕ) (sound : IsSound s) (before after : W) (over : IsOpenOver s (held_of G before)) (now : Plain)
+module _ {W : Type 0} (G : Ghosts W) (s : SessionState) (seat : ℕ) (sound : IsSound s) (before after : W) (over : IsOpenOver s (held_of G before)) (now : Plain)
     (lines : List RecordLine) (gives : laid (activity s).reach.directory.page over.committed lines ≡ now.store) where
   abbrev fine : Desk
   fine = fine_desk s over.committed seat now
@@ -109,7 +109,7 @@ module _ {W : Type 0} (G : Ghosts W) (s : Session) (seat : ℕ) (sound : IsSound
   pub tracked : IsSure G before → (store : KeptStore) → store ≡ with_begun s.store lines → TracksStore G store before
   tracked sure store is = grind (arith, is, shows_begun s.store lines (held_of G before) over.shows)
 
-  module _ (number : ℕ) (number_is : number ≡ number_of s.store) (n : Session) (told : Committed) (activation : told.activation ≡ number_in (activity s).seating seat)
+  module _ (number : ℕ) (number_is : number ≡ number_of s.store) (n : SessionState) (told : Committed) (activation : told.activation ≡ number_in (activity s).seating seat)
       (steps : told.steps ≡ (sitter (activity s).seating seat).rows + 1) where
     pub went-done : n.store.header ≡ s.store.header → n.opened ≡ s.opened → n.closed ≡ s.closed → n.order.items ≡ s.order.items ++ told ∷ []
         → ((order : List (ℕ × ℕ)) → desk_over (activity n) now.store order ≡ committed_at (desk_over (activity s) over.committed order) (entry_in (activity s) seat) now)
@@ -174,7 +174,7 @@ module _ {W : Type 0} (G : Ghosts W) (s : Session) (seat : ℕ) (sound : IsSound
         next : Desk
         next = record (ordered (session_desk s over.committed) (commit_call (activity s) seat over.committed (order_of s) now)) { closed = true }
 
-  pub went-unwritten : (number : ℕ) → number ≡ number_of s.store → (n : Session) → n.closed ≡ true → order_of n ≡ order_of s → (tally : Tally)
+  pub went-unwritten : (number : ℕ) → number ≡ number_of s.store → (n : SessionState) → n.closed ≡ true → order_of n ≡ order_of s → (tally : Tally)
       → Rose (G.disk_faults before) (G.disk_faults after) → Leaves G (λ image seen. stands image ≡ stands (held_of G before)) before after
       → HasCommitted G seat now (end.Closed None ((number + 1) % 2 ^ 64)) s n tally tally before after over.committed
   went-unwritten number is n closed order tally rose crash = record {

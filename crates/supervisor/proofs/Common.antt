@@ -62,7 +62,7 @@ pub use Rattle.supervisor.specs.Laws.{CyclesWereMet, ShownIsConsistent, ShownIsI
 pub use Rattle.supervisor.specs.Session.{IsSound, activity, fixed_of, session_desk, session_told, order_of}
 pub use Rattle.supervisor.specs.Shown.{IsOpenOver, ShowsDesk, view_of}
 pub use Rattle.supervisor.specs.Went.{HasCommitted, TurnHasRun, IsCommitEnd, IsEitherSide, IsTurned, fine_desk}
-pub use Rattle.supervisor.specs.declared.session.Session.{Session}
+pub use Rattle.supervisor.specs.declared.session.SessionState.{SessionState}
 pub use Rattle.store.specs.Committed.{HoldsCommitted, emptied, roomy}
 pub use Rattle.desk.specs.declared.answers.Turn.{Turn}
 pub use Rattle.store.specs.Tracks.{HoldsRecords, IsEither}

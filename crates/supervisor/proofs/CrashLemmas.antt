@@ -1,12 +1,12 @@
 -- What a crash of a session did.
 use Rattle.activations.specs.Follows.{AlwaysHolds}
-use Rattle.supervisor.proofs.Common.{Activity, ◌≡◌, inl, ℕ, List, [], refl, sym, ◌∙◌, ap, Option, true, unwrap_or, Ghosts, Rose, IsSure, OnlyAsks, held_of, Header, Faulty, bank_of, stands, chosen, KeptStore, number_of, TracksStore, shown_stands, shown_store, journal_in, TookEvent, told_event, fixed_of, view_of, Desk, numbers, Fine, Failed, number_after, Step, Crashed, CrashFailed, shut, restarted, stepped, IsRestarted, Session, IsSound, activity, session_desk, order_of, IsOpenOver, arith}
+use Rattle.supervisor.proofs.Common.{Activity, ◌≡◌, inl, ℕ, List, [], refl, sym, ◌∙◌, ap, Option, true, unwrap_or, Ghosts, Rose, IsSure, OnlyAsks, held_of, Header, Faulty, bank_of, stands, chosen, KeptStore, number_of, TracksStore, shown_stands, shown_store, journal_in, TookEvent, told_event, fixed_of, view_of, Desk, numbers, Fine, Failed, number_after, Step, Crashed, CrashFailed, shut, restarted, stepped, IsRestarted, SessionState, IsSound, activity, session_desk, order_of, IsOpenOver, arith}
 use Rattle.desk.specs.declared.event.Event.TheVariants as event
 use Rattle.supervisor.proofs.DidLemmas.{asked-stands, did-fail, fine-sure, over-other}
 
 -- a crash
-module _ {W : Type 0} (G : Ghosts W) (s : Session) (store : KeptStore) (header : store.header ≡ s.store.header) (left : Activity) (holds : AlwaysHolds left) (sound : IsSound s) (before after : W) (sure : IsSure G before) (over : IsOpenOver s (held_of G before)) (gone : IsRestarted (activity s) left over.committed) (asks : OnlyAsks G before after) where
-  abbrev forgotten : Session
+module _ {W : Type 0} (G : Ghosts W) (s : SessionState) (store : KeptStore) (header : store.header ≡ s.store.header) (left : Activity) (holds : AlwaysHolds left) (sound : IsSound s) (before after : W) (sure : IsSure G before) (over : IsOpenOver s (held_of G before)) (gone : IsRestarted (activity s) left over.committed) (asks : OnlyAsks G before after) where
+  abbrev forgotten : SessionState
   forgotten = record s { store = store; activations = left }
 
   pub restarted-is : session_desk forgotten over.committed ≡ restarted (session_desk s over.committed)
@@ -51,5 +51,5 @@ module _ {W : Type 0} (G : Ghosts W) (s : Session) (store : KeptStore) (header :
       (stepped (activity s).programs event.Crash Failed (session_desk s over.committed) over.still_open) rose (asked-stands G s sound before after over sure asks)
 
 -- bytes that were its store's have no fault
-pub undamaged : (s : Session) (held : List ℕ) → IsOpenOver s held → (offset : ℕ) → bank_of held s.store.header (chosen held) ≡ Faulty offset → ⊥
+pub undamaged : (s : SessionState) (held : List ℕ) → IsOpenOver s held → (offset : ℕ) → bank_of held s.store.header (chosen held) ≡ Faulty offset → ⊥
 undamaged s held over offset faulty = grind (arith, over.shows.chosen_is, (shown_store held s.store over.shows).holds)

@@ -1,5 +1,5 @@
 -- What the turns and the checkpoints of a session did.
-use Rattle.supervisor.proofs.Common.{Activity, ◌≡◌, inl, inr, ℕ, List, refl, sym, ◌∙◌, ap, subst, arith, true, false, Ghosts, Rose, IsSure, Leaves, OnlyAsks, held_of, Header, Stands, stands, KeptStore, number_of, Shows, TurnEnd, counts_told, ending_told, turn_told, TookEvent, told_event, fixed_of, view_of, standing_of, Desk, Fine, Failed, Doubt, Counts, JournalAfter, journal_in, Happening, Step, Turned, CheckpointMade, CheckpointFailed, step, turned, shut, stepped, Tally, tally_counts, KeepsDesk, Session, IsSound, activity, order_of, session_desk, number_after, IsOpenOver, ShowsDesk, Takes, TurnHasRun, IsTurned, Turn}
+use Rattle.supervisor.proofs.Common.{Activity, ◌≡◌, inl, inr, ℕ, List, refl, sym, ◌∙◌, ap, subst, arith, true, false, Ghosts, Rose, IsSure, Leaves, OnlyAsks, held_of, Header, Stands, stands, KeptStore, number_of, Shows, TurnEnd, counts_told, ending_told, turn_told, TookEvent, told_event, fixed_of, view_of, standing_of, Desk, Fine, Failed, Doubt, Counts, JournalAfter, journal_in, Happening, Step, Turned, CheckpointMade, CheckpointFailed, step, turned, shut, stepped, Tally, tally_counts, KeepsDesk, SessionState, IsSound, activity, order_of, session_desk, number_after, IsOpenOver, ShowsDesk, Takes, TurnHasRun, IsTurned, Turn}
 use Rattle.outside.proofs.Durable.{leaves_held}
 use Rattle.supervisor.proofs.JournalLemmas.{checkpoint-empties}
 use Rattle.desk.specs.declared.event.Event.{Event}
@@ -16,7 +16,7 @@ pub open-shut : true ≡ false → ⊥
 open-shut same = cc
 
 -- bytes that a session is over stand for its desk
-pub stood-over : (s : Session) (held : List ℕ) → IsSound s → (over : IsOpenOver s held) → stands held ≡ standing_of s.opened (session_desk s over.committed)
+pub stood-over : (s : SessionState) (held : List ℕ) → IsSound s → (over : IsOpenOver s held) → stands held ≡ standing_of s.opened (session_desk s over.committed)
 stood-over s held sound over = over.stood ∙ (λ i. Stands (over.number i) (record { directory = sound.directory i; bytes = over.committed }))
 
 -- what an answer to a turn of an open session tells
@@ -25,13 +25,13 @@ pub told-by : (end : TurnEnd) (activation : ℕ) (answer : Turn) (printed : List
 told-by ends activation answer printed is = grind arith
 
 -- what a session did from the desk that it is over it did from each desk that it shows
-module _ {W : Type 0} (G : Ghosts W) (event : Event) (told : Desk → Happening) (numbered : ℕ → Type 0) (s new : Session) (before after : W) where
+module _ {W : Type 0} (G : Ghosts W) (event : Event) (told : Desk → Happening) (numbered : ℕ → Type 0) (s new : SessionState) (before after : W) where
   pub takes : ((over : IsOpenOver s (held_of G before)) → IsSure G before → (did : TookEvent G (told_event (fixed_of s) event (told (session_desk s over.committed))) (view_of new) (session_desk s over.committed) before after) × numbered (number_after s.opened did.next))
       → Takes G event told numbered (fixed_of s) (ShowsDesk s) (view_of new) before after
   takes took desk sure shown = subst (λ (that : Desk). (did : TookEvent G (told_event (fixed_of s) event (told that)) (view_of new) that before after) × numbered (number_after s.opened did.next)) (sym shown.is) (took shown.over sure)
 
 -- a turn of an open session
-module _ {W : Type 0} (G : Ghosts W) (s new : Session) (activation limit : ℕ) (result : TurnEnd) (tally : Tally) (answer : Turn) (before after : W) (over : IsOpenOver s (held_of G before)) where
+module _ {W : Type 0} (G : Ghosts W) (s new : SessionState) (activation limit : ℕ) (result : TurnEnd) (tally : Tally) (answer : Turn) (before after : W) (over : IsOpenOver s (held_of G before)) where
   abbrev pub did-turn : IsSound new → IsTurned result → counts_told answer ≡ tally_counts tally → answer.end ≡ result → TurnHasRun G activation limit result s new tally before after over.committed
       → TookEvent G (told_event (fixed_of s) (event.Turn activation limit) (turn_told activation answer new.printed)) (view_of new) (session_desk s over.committed) before after
   did-turn sound is counts ends ran =
@@ -56,7 +56,7 @@ module _ {W : Type 0} (G : Ghosts W) (s new : Session) (activation limit : ℕ) 
       }
 
 -- a session over another store with the same header and number, whose bytes stand for the same, and with other activities over the same committed bytes
-abbrev pub over-other : (s : Session) (store : KeptStore) (left : Activity) (held after : List ℕ) → store.header ≡ s.store.header → (over : IsOpenOver s held) → number_of store ≡ number_of s.store → Shows after store → stands after ≡ stands held
+abbrev pub over-other : (s : SessionState) (store : KeptStore) (left : Activity) (held after : List ℕ) → store.header ≡ s.store.header → (over : IsOpenOver s held) → number_of store ≡ number_of s.store → Shows after store → stands after ≡ stands held
     → KeepsDesk left over.committed → IsOpenOver (record s { store = store; activations = left }) after
 over-other s store left held after header over number shows stood follows = record {
   still_open = over.still_open;
@@ -67,13 +67,13 @@ over-other s store left held after header over number shows stood follows = reco
   number = number ∙ over.number;
 }
 
-module _ {W : Type 0} (G : Ghosts W) (s : Session) (sound : IsSound s) (before after : W) (over : IsOpenOver s (held_of G before)) where
+module _ {W : Type 0} (G : Ghosts W) (s : SessionState) (sound : IsSound s) (before after : W) (over : IsOpenOver s (held_of G before)) where
   -- while the disk was only asked, a crash left what stood
   pub asked-stands : IsSure G before → OnlyAsks G before after → Leaves G (λ image seen. stands image ≡ standing_of s.opened (session_desk s over.committed)) before after
   asked-stands sure asks image seen left = cc (leaves_held G before sure image seen (asks.crash sure.told image seen left), stood-over s (held_of G before) sound over)
 
   -- an event at which the disk failed closed the desk
-  abbrev pub did-fail : (n : Session) (event : Event) (told : Happening) (next : Desk) → n.closed ≡ true → next.closed ≡ true → order_of n ≡ next.order → step (activity s).programs event Failed (session_desk s over.committed) ≡ record { desk = next; happening = told }
+  abbrev pub did-fail : (n : SessionState) (event : Event) (told : Happening) (next : Desk) → n.closed ≡ true → next.closed ≡ true → order_of n ≡ next.order → step (activity s).programs event Failed (session_desk s over.committed) ≡ record { desk = next; happening = told }
       → Rose (G.disk_faults before) (G.disk_faults after) → Leaves G (λ image seen. stands image ≡ standing_of s.opened (session_desk s over.committed)) before after
       → TookEvent G (told_event (fixed_of s) event told) (view_of n) (session_desk s over.committed) before after
   did-fail n event told next closed shut ordered is rose crash = record {
@@ -90,7 +90,7 @@ module _ {W : Type 0} (G : Ghosts W) (s : Session) (sound : IsSound s) (before a
   }
 
 -- a checkpoint
-module _ {W : Type 0} (G : Ghosts W) (s : Session) (store : KeptStore) (sound : IsSound s) (before after : W) (over : IsOpenOver s (held_of G before)) (crash : Leaves G (λ image seen. stands image ≡ stands (held_of G before)) before after) where
+module _ {W : Type 0} (G : Ghosts W) (s : SessionState) (store : KeptStore) (sound : IsSound s) (before after : W) (over : IsOpenOver s (held_of G before)) (crash : Leaves G (λ image seen. stands image ≡ stands (held_of G before)) before after) where
   pub either : Leaves G (λ image seen. stands image ≡ standing_of s.opened (session_desk s over.committed)) before after
   either image seen left = crash image seen left ∙ stood-over s (held_of G before) sound over
 

@@ -1,5 +1,5 @@
 -- A session that has just opened.
-use Rattle.supervisor.proofs.Common.{◌≡◌, ℕ, ◌+◌, ◌^◌, List, [], length, take, sym, ◌∙◌, ap, arith, Option, false, unwrap_or, byte_count, Ghosts, OnlyAsks, held_of, header_of, most_lines, Stands, stands, KeptStore, number_of, Shows, TracksStore, order_told, opened, desk_over, Begins, Session, activity, session_desk}
+use Rattle.supervisor.proofs.Common.{◌≡◌, ℕ, ◌+◌, ◌^◌, List, [], length, take, sym, ◌∙◌, ap, arith, Option, false, unwrap_or, byte_count, Ghosts, OnlyAsks, held_of, header_of, most_lines, Stands, stands, KeptStore, number_of, Shows, TracksStore, order_told, opened, desk_over, Begins, SessionState, activity, session_desk}
 use Rattle.activations.specs.Follows.{HasFrames}
 use Rattle.std.proofs.Math.Nat.{mod-mod}
 use Rattle.store.proofs.StoodLemmas.{committed_in, committed-long, stood-store}
@@ -9,7 +9,7 @@ pub has-stood : (held : List ℕ) (store : KeptStore) → Shows held store → H
 has-stood held store shows = grind (arith, shows.header.said, committed_in held store shows, stood-store held store shows)
 
 -- What is made anew, of a store: nothing was committed through it, and over committed bytes it is the desk that opens on them.
-pub record IsMade (frames : ℕ) (s : Session) : Type 0 where
+pub record IsMade (frames : ℕ) (s : SessionState) : Type 0 where
   pub still_open : s.closed ≡ false
   pub number : s.opened ≡ number_of s.store
   pub no_order : s.order.items ≡ []
@@ -17,7 +17,7 @@ pub record IsMade (frames : ℕ) (s : Session) : Type 0 where
   pub fitting : HasFrames (activity s).reach
   pub first : (committed : List ℕ) → length committed ≡ byte_count s.store.header.directory → Begins (activity s) (opened frames 16 (most_lines s.store.header) (record { directory = s.store.header.directory; bytes = committed })) committed
 
-module _ (frames : ℕ) (s : Session) (made : IsMade frames s) where
+module _ (frames : ℕ) (s : SessionState) (made : IsMade frames s) where
   pub made-desk : (committed : List ℕ) → length committed ≡ byte_count s.store.header.directory
       → opened frames 16 (most_lines s.store.header) (record { directory = s.store.header.directory; bytes = committed }) ≡ session_desk s committed
   made-desk committed long =

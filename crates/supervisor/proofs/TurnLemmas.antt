@@ -1,5 +1,5 @@
 -- How a turn of a session ends: over what ran, and then its commit.
-use Rattle.supervisor.proofs.Common.{Activity, arith, ap, sym, ◌∙◌, subst, inl, inr, ⊎_elim, has, Ghosts, Rose, IsSure, FewerLater, Leaves, OnlyAsks, held_of, leaves_on, Stands, stands, sure_on, Shows, TurnEnd, ending_told, HasNumbers, OnlyWrites, IsEitherOf, fine_step, standing_of, JournalAfter, journal_in, Turned, Desk, Entry, Word, Fine, ReadFailed, Doubt, Going, Over, no_counts, commits, turn, turn_of, turns, number_after, Step, turned, Reads, seat-told, told-found, stepped, number_in, seat_of, seat-found, Tally, entries, entry_in, desk_over, KeepsDesk, IsEndOfRows, IfWaits, HasEnded, tally_counts, IsAtCommit, commit_call, turn_in, Session, IsSound, activity, order_of, session_desk, IsOpenOver, HasCommitted, TurnHasRun, IsCommitEnd, fine_desk, ◌≡◌, refl, ℕ, ◌+◌, ◌-◌, ◌*◌, ◌<◌, ◌≤◌, ◌⊎◌, true, false, List, [], Option, Some, None, unwrap_or, IsStoreOf}
+use Rattle.supervisor.proofs.Common.{Activity, arith, ap, sym, ◌∙◌, subst, inl, inr, ⊎_elim, has, Ghosts, Rose, IsSure, FewerLater, Leaves, OnlyAsks, held_of, leaves_on, Stands, stands, sure_on, Shows, TurnEnd, ending_told, HasNumbers, OnlyWrites, IsEitherOf, fine_step, standing_of, JournalAfter, journal_in, Turned, Desk, Entry, Word, Fine, ReadFailed, Doubt, Going, Over, no_counts, commits, turn, turn_of, turns, number_after, Step, turned, Reads, seat-told, told-found, stepped, number_in, seat_of, seat-found, Tally, entries, entry_in, desk_over, KeepsDesk, IsEndOfRows, IfWaits, HasEnded, tally_counts, IsAtCommit, commit_call, turn_in, SessionState, IsSound, activity, order_of, session_desk, IsOpenOver, HasCommitted, TurnHasRun, IsCommitEnd, fine_desk, ◌≡◌, refl, ℕ, ◌+◌, ◌-◌, ◌*◌, ◌<◌, ◌≤◌, ◌⊎◌, true, false, List, [], Option, Some, None, unwrap_or, IsStoreOf}
 use Rattle.supervisor.proofs.DidLemmas.{asked-stands, over-other}
 use Rattle.desk_law.proofs.Entries.{found-among}
 use Rattle.desk_law.proofs.InstructionStages.{reads-all}
@@ -10,20 +10,20 @@ use Rattle.activations.specs.Follows as running
 use Rattle.activations.specs.Kept as kept
 
 -- what ran leaves a session sound
-pub sound-ran : (s : Session) (ran : Activity) (limit : ℕ) → IsSound s → limit ≤ 1000000 → 0 < s.turns → kept.AreRowsWithin (activity s) ((s.turns - 1) * 1000000)
+pub sound-ran : (s : SessionState) (ran : Activity) (limit : ℕ) → IsSound s → limit ≤ 1000000 → 0 < s.turns → kept.AreRowsWithin (activity s) ((s.turns - 1) * 1000000)
     → running.AlwaysHolds ran → kept.KeepsParts (activity s) ran limit → IsSound (record s { activations = ran })
 sound-ran s ran limit sound few turned rows is parts = grind (arith, sound, sound.room, is, parts, parts.rows ((s.turns - 1) * 1000000) rows)
 
 -- the desk of an open session is that over what runs
-pub open-desk : (s : Session) (committed : List ℕ) → s.closed ≡ false → session_desk s committed ≡ desk_over (activity s) committed (order_of s)
+pub open-desk : (s : SessionState) (committed : List ℕ) → s.closed ≡ false → session_desk s committed ≡ desk_over (activity s) committed (order_of s)
 open-desk s committed still i = record (desk_over (activity s) committed (order_of s)) { closed = still i }
 
-module _ {W : Type 0} (G : Ghosts W) (s : Session) (sound : IsSound s) (before : W) (over : IsOpenOver s (held_of G before)) where
+module _ {W : Type 0} (G : Ghosts W) (s : SessionState) (sound : IsSound s) (before : W) (over : IsOpenOver s (held_of G before)) where
   -- a store of which activations read
   pub store-over : IsSure G before → IsStoreOf G s.store before over.committed
   store-over sure = record { tracks = record { sure = sure; shows = over.shows }; number = _; stood = over.stood }
 
-module _ {W : Type 0} (G : Ghosts W) (fewer_later : FewerLater G) (s : Session) (sound : IsSound s) (activation limit : ℕ) (before mid : W) (sure : IsSure G before)
+module _ {W : Type 0} (G : Ghosts W) (fewer_later : FewerLater G) (s : SessionState) (sound : IsSound s) (activation limit : ℕ) (before mid : W) (sure : IsSure G before)
     (over : IsOpenOver s (held_of G before)) (asks : OnlyAsks G before mid) where
   -- while the disk was only asked, a crash left what stood
   asked : Leaves G (λ image seen. stands image ≡ standing_of s.opened (session_desk s over.committed)) before mid
@@ -55,7 +55,7 @@ module _ {W : Type 0} (G : Ghosts W) (fewer_later : FewerLater G) (s : Session) 
   }
 
   module _ (seat : ℕ) (sits : seat_of (activity s).seating activation ≡ Some seat) (ran : Activity) (tally told : Tally) (nothing : tally_counts tally ≡ no_counts) where
-    abbrev now : Session
+    abbrev now : SessionState
     now = record s { activations = ran }
 
     found : (has (activity s).seating.taken seat ≡ true) × (number_in (activity s).seating seat ≡ activation)
@@ -104,7 +104,7 @@ module _ {W : Type 0} (G : Ghosts W) (fewer_later : FewerLater G) (s : Session) 
     ended _ rows waits has = absurd rows
 
     -- it came to its commit call
-    module _ (parts : kept.KeepsParts (activity s) ran limit) (after : W) (new : Session) (how : TurnEnd) (counted : Tally)
+    module _ (parts : kept.KeepsParts (activity s) ran limit) (after : W) (new : SessionState) (how : TurnEnd) (counted : Tally)
         (at : IsAtCommit (turn_in (activity s) seat limit over.committed (order_of s) (tally_counts tally)) ran seat over.committed (order_of s) (tally_counts told))
         (number : number_in ran.seating seat ≡ number_in (activity s).seating seat) (calm : G.disk_faults mid ≡ G.disk_faults before) (writes : OnlyWrites G mid after) (is_end : IsCommitEnd how)
         (went : HasCommitted G seat at.now how now new told counted mid after over.committed) where

@@ -15,7 +15,7 @@ use Rattle.desk.specs.declared.answers.Reopened.TheVariants as reopened
 use Rattle.desk.specs.declared.answers.Turn.{Turn}
 use Rattle.desk.specs.declared.answers.TurnEnd.TheVariants as end
 use Rattle.activations.specs.Recorded.{IsRecordOf}
-use Rattle.supervisor.specs.declared.session.Session.{Session}
+use Rattle.supervisor.specs.declared.session.SessionState.{SessionState}
 use Rattle.supervisor.specs.Session.{activity, session_told, store_told}
 use Rattle.supervisor.specs.Shown.{ShowsDesk}
 
@@ -38,7 +38,7 @@ pub record IsBeginAnswer (a : Activity) (program : ℕ) (answer : Begun) : Type 
   pub started : (number : ℕ) → (answer ≡ begun.Started number) ↔ (HasPlace a × (lacking a program ≡ None) × (number ≡ a.next))
 
 -- a session that is open gives it so
-abbrev pub AnswersBegin : Session → (program : ℕ) → Begun → Type 0
+abbrev pub AnswersBegin : SessionState → (program : ℕ) → Begun → Type 0
 AnswersBegin s program answer = (session_told s).closed ≡ false → IsBeginAnswer (activity s) program answer
 
 -- The number that a commit tells is the one after the store's; where it is in doubt, it is that of this activation.
@@ -67,7 +67,7 @@ pub record IsTurnEnd (activation limit most number : ℕ) (answer : Turn) : Type
 
 -- The answer to a turn asked of a session gives the true cause: nothing was counted of one that was closed, and one that was open had nobody of that
 -- number exactly where the turn is idle.
-pub record IsTurnAnswer (s : Session) (activation limit : ℕ) (answer : Turn) : Type 0 where
+pub record IsTurnAnswer (s : SessionState) (activation limit : ℕ) (answer : Turn) : Type 0 where
   pub uncounted : s.closed ≡ true → counts_told answer ≡ no_counts
   pub idle : s.closed ≡ false → (answer.end ≡ end.Idle) ↔ (seat_of (activity s).seating activation ≡ None)
   pub caused : IsTurnEnd activation limit (most_lines s.store.header) (number_of s.store) answer
@@ -78,7 +78,7 @@ ReopenedNumber (reopened.Number told) number = told ≡ number
 ReopenedNumber _ number = Unit {0}
 
 -- bytes over which a session shows a desk aren't found damaged
-abbrev pub NeverDamaged : {W : Type 0} → Ghosts W → Session → W → Reopened → Type 0
+abbrev pub NeverDamaged : {W : Type 0} → Ghosts W → SessionState → W → Reopened → Type 0
 NeverDamaged G s outside answer = (desk : Desk) (offset : ℕ) → IsSome (G.held outside) → ShowsDesk s (held_of G outside) desk → answer ≢ reopened.Damaged offset
 
 -- What `Durable::commit` promises of a store with a begun record where it answers so, Unwritten or Doubt: the disk's count rose in it.
@@ -91,7 +91,7 @@ pub record IsFailedCommit {W : Type 0} (G : Ghosts W) (answer : Kept) (old new :
 
 -- Up to a moment the disk was only asked, and its count stayed. From then on all is as `Durable::commit` promises where it answers so, of a record of the
 -- lines that an activation holds to write: the count rose in it. The activation sits there still.
-pub record ClosesInCommit {W : Type 0} (G : Ghosts W) (activation : ℕ) (answer : Kept) (store : KeptStore) (new : Session) (before after : W) : Type 0 where
+pub record ClosesInCommit {W : Type 0} (G : Ghosts W) (activation : ℕ) (answer : Kept) (store : KeptStore) (new : SessionState) (before after : W) : Type 0 where
   pub seat : ℕ
   pub taken : has (activity new).seating.taken seat ≡ true
   pub number : number_in (activity new).seating seat ≡ activation
@@ -109,12 +109,12 @@ pub record HasItsRecord (store new : KeptStore) : Type 0 where
 
 -- What a turn of an activation that ends so does with the store: a commit adds its record; one that closes ends as its commit does, at Doubt where the
 -- close is in doubt, and else at Unwritten; no other end touches it.
-abbrev pub LeavesStore : {W : Type 0} → Ghosts W → (activation : ℕ) → TurnEnd → KeptStore → Session → W → W → Type 0
+abbrev pub LeavesStore : {W : Type 0} → Ghosts W → (activation : ℕ) → TurnEnd → KeptStore → SessionState → W → W → Type 0
 LeavesStore G activation (end.Committed told steps) store new before after = HasItsRecord store (store_told new)
 LeavesStore G activation (end.Closed (Some doubted) told) store new before after = ClosesInCommit G activation kept.Doubt store new before after
 LeavesStore G activation (end.Closed None told) store new before after = ClosesInCommit G activation kept.Unwritten store new before after
 LeavesStore G activation _ store new before after = store_told new ≡ store
 
 -- the same of its answer
-abbrev pub TurnLeaves : {W : Type 0} → Ghosts W → (activation : ℕ) → Turn → (old new : Session) → W → W → Type 0
+abbrev pub TurnLeaves : {W : Type 0} → Ghosts W → (activation : ℕ) → Turn → (old new : SessionState) → W → W → Type 0
 TurnLeaves G activation answer old new before after = LeavesStore G activation answer.end (store_told old) new before after

@@ -7,25 +7,25 @@ use Rattle.desk_law.specs.Causes.{IsOverFor, turn_counts}
 use Rattle.desk_law.specs.Consistent.{IsAmong, IsConsistent}
 use Rattle.desk_law.specs.Laws.{EachWaits, IsActive}
 use Rattle.desk_law.specs.Memory.{Machine, memory_after, memory_of}
-use Rattle.supervisor.specs.declared.session.Session.{Session}
+use Rattle.supervisor.specs.declared.session.SessionState.{SessionState}
 use Rattle.supervisor.specs.Session.{activity}
 use Rattle.supervisor.specs.Shown.{ShowsDesk}
 
 -- The law: a desk that a session shows is consistent.
 abbrev pub ShownIsConsistent : Type 0
-ShownIsConsistent = (s : Session) (held : List ℕ) (desk : Desk) → ShowsDesk s held desk → IsConsistent desk
+ShownIsConsistent = (s : SessionState) (held : List ℕ) (desk : Desk) → ShowsDesk s held desk → IsConsistent desk
 
 -- The law: where somebody is active at such a desk, somebody who is active waits for nobody.
 abbrev pub SomebodyGoesOn : Type 0
 SomebodyGoesOn =
-    (s : Session) (held : List ℕ) (desk : Desk) (entry : Entry) → ShowsDesk s held desk → IsAmong desk.active entry
+    (s : SessionState) (held : List ℕ) (desk : Desk) (entry : Entry) → ShowsDesk s held desk → IsAmong desk.active entry
     → (other : Entry) × IsAmong desk.active other × ((number : ℕ) → IsFalse (waits_for desk other.number number))
 
 -- The law: from such a desk each turn of who is active ends for its cause, however it goes on the disk, and one of who isn't active is idle:
 -- the desk stays, and nothing is counted.
 abbrev pub ShownTurnsEnd : Type 0
 ShownTurnsEnd =
-    (s : Session) (held : List ℕ) (desk : Desk) (word : Word) (number limit : ℕ) → ShowsDesk s held desk
+    (s : SessionState) (held : List ℕ) (desk : Desk) (word : Word) (number limit : ℕ) → ShowsDesk s held desk
     → ((entry : Entry) → IsAmong desk.active entry → IsOverFor word limit desk entry (turn word entry.number limit desk))
     × ((¬ (IsActive desk number)) → turn word number limit desk ≡ Over desk no_counts Idle)
 
@@ -62,7 +62,7 @@ CyclesWereMet = (word : Word) (number limit : ℕ) (desk : Desk) → WereMet wor
 -- bytes of that memory.
 abbrev pub ShownIsIsolated : Type 0
 ShownIsIsolated =
-    (s : Session) (held : List ℕ) (programs : List Program) (frames most_active most_lines : ℕ) (store : FlatStore) (events : List (Event × Word))
+    (s : SessionState) (held : List ℕ) (programs : List Program) (frames most_active most_lines : ℕ) (store : FlatStore) (events : List (Event × Word))
     → IsWhole store → 2 ≤ frames → ShowsDesk s held (run programs events (opened frames most_active most_lines store))
     → ((seat : ℕ) → has (activity s).seating.taken seat ≡ true
     → (machine : Machine)

@@ -1,13 +1,12 @@
 -- A session that has just opened on the store of a disk.
 use Rattle.std.specs.Prelude.{◌≡◌, ℕ, List, [], false, take, IsSome, IsTrue}
 use Rattle.supervisor.specs.Below.{FlatStore, Ghosts, Header, header_of, held_of, HoldsStore, IsSure, most_lines, opened, Program, Stands, stands}
-use Rattle.supervisor.specs.declared.session.Session.{Session}
-use Rattle.supervisor.specs.Session.{IsSound, activity, fixed_of, header_of_session, order_of, session_told}
+use Rattle.supervisor.specs.declared.session.SessionState.{SessionState}
+use Rattle.supervisor.specs.Session.{activity, fixed_of, header_of_session, order_of, session_told}
 use Rattle.supervisor.specs.Shown.{ShowsDesk}
 
--- it is sound and open, for so many begins of these programs, and no number was given
-pub record IsNew (programs : List Program) (begins : ℕ) (s : Session) : Type 0 where
-  pub sound : IsSound s
+-- it is open, for so many begins of these programs, and no number was given
+pub record IsNew (programs : List Program) (begins : ℕ) (s : SessionState) : Type 0 where
   pub programs_are : (activity s).programs ≡ programs
   pub begins_are : (fixed_of s).begins ≡ begins
   pub none_given : (activity s).next ≡ 1
@@ -22,7 +21,7 @@ HasStood header held = (header_of (take 128 held) ≡ header) × ((number : ℕ)
 
 -- The bytes told are sure, and stand for the number that it opened with and a store; over them it is the desk that opens on that
 -- store.
-pub record IsSessionOpened {W : Type 0} (G : Ghosts W) (frames : ℕ) (old new : W) (s : Session) : Type 0 where
+pub record IsSessionOpened {W : Type 0} (G : Ghosts W) (frames : ℕ) (old new : W) (s : SessionState) : Type 0 where
   pub sure : IsSure G new
   pub store : FlatStore
   pub stood : stands (held_of G old) ≡ Stands (fixed_of s).opened store
@@ -30,7 +29,7 @@ pub record IsSessionOpened {W : Type 0} (G : Ghosts W) (frames : ℕ) (old new :
   pub shows : ShowsDesk s (held_of G new) (opened frames 16 (most_lines (header_of_session s)) store)
 
 -- what an opening makes of a session: it is new, the bytes that are told are enough for its store and stood for one, and those of an honest disk open it
-pub record IsMadeOver {W : Type 0} (G : Ghosts W) (programs : List Program) (frames begins : ℕ) (before after : W) (s : Session) : Type 0 where
+pub record IsMadeOver {W : Type 0} (G : Ghosts W) (programs : List Program) (frames begins : ℕ) (before after : W) (s : SessionState) : Type 0 where
   pub new : IsNew programs begins s
   pub room : HoldsStore G (header_of_session s) after
   pub opened : IsTrue (G.is_honest before) → IsSome (G.held before) → IsSessionOpened G frames before after s

@@ -2,42 +2,42 @@
 use Rattle.std.specs.Prelude.{◌≡◌, ℕ, ◌+◌, ◌-◌, ◌*◌, ◌<◌, ◌≤◌, ◌^◌, false, List, length, vec_len, vec_capacity}
 use Rattle.supervisor.specs.Below.{Activity, AreRowsWithin, Desk, desk_over, Fixed, HasRanges, Header, KeptStore, most_lines, number_of, order_told, Told}
 use Rattle.activations.specs.Follows as running
-use Rattle.supervisor.specs.declared.session.Session.{Session}
+use Rattle.supervisor.specs.declared.session.SessionState.{SessionState}
 
 -- what runs in it
-abbrev pub activity : Session → Activity
+abbrev pub activity : SessionState → Activity
 activity s = s.activations
 
 -- its commits
-abbrev pub order_of : Session → List (ℕ × ℕ)
+abbrev pub order_of : SessionState → List (ℕ × ℕ)
 order_of s = order_told s.order.items
 
 -- the header of its store
-abbrev pub header_of_session : Session → Header
+abbrev pub header_of_session : SessionState → Header
 header_of_session s = s.store.header
 
 -- what only its opening sets
-abbrev pub fixed_of : Session → Fixed
+abbrev pub fixed_of : SessionState → Fixed
 fixed_of s = record { programs = (activity s).programs; opened = s.opened; header = s.store.header; begins = s.begins }
 
 -- the number of its store
-abbrev pub number_told : Session → ℕ
+abbrev pub number_told : SessionState → ℕ
 number_told s = number_of s.store
 
 -- its store, as it is kept
-abbrev pub store_told : Session → KeptStore
+abbrev pub store_told : SessionState → KeptStore
 store_told s = s.store
 
 -- what it tells of itself; it is closed by a fault of the disk or by damage, and counts the turns that were asked of it
-abbrev pub session_told : Session → Told
+abbrev pub session_told : SessionState → Told
 session_told s = record { closed = s.closed; fixed = fixed_of s; given = (activity s).next - 1; turns = s.turns; printed = s.printed; order = order_of s }
 
 -- the desk that it is over committed bytes
-abbrev pub session_desk : Session → (committed : List ℕ) → Desk
+abbrev pub session_desk : SessionState → (committed : List ℕ) → Desk
 session_desk s committed = record (desk_over (activity s) committed (order_of s)) { closed = s.closed }
 
 -- the numbers of begins, turns and commits fit
-pub record HaveRoom (s : Session) : Type 0 where
+pub record HaveRoom (s : SessionState) : Type 0 where
   pub begun : (activity s).next ≤ s.begins + 1
   pub begin_numbers : s.begins + 1 < 2 ^ 32
   pub turned : s.turns ≤ 2 ^ 32
@@ -47,7 +47,7 @@ pub record HaveRoom (s : Session) : Type 0 where
   pub commits : vec_len s.order ≤ s.begins
 
 -- what holds of a session at every moment
-pub record IsSound (s : Session) : Type 0 where
+pub record IsSound (s : SessionState) : Type 0 where
   pub ranges : HasRanges s.store.header
   pub running : running.AlwaysHolds (activity s)
   pub directory : s.store.header.directory ≡ (activity s).reach.directory
@@ -56,5 +56,5 @@ pub record IsSound (s : Session) : Type 0 where
   pub usable : s.closed ≡ false → s.store.bank.spoiled ≡ false
 
 -- how many records the chosen bank of its store holds
-abbrev pub records_told : Session → ℕ
+abbrev pub records_told : SessionState → ℕ
 records_told s = s.store.bank.count

@@ -2,12 +2,12 @@
 use Rattle.std.specs.Prelude.{◌≡◌, ℕ, List, false}
 use Rattle.supervisor.specs.Below.{Desk, number_after, number_of, seen, Shows, Stands, stands, View}
 use Rattle.activations.specs.Follows.{HasFrames, KeepsDesk}
-use Rattle.supervisor.specs.declared.session.Session.{Session}
+use Rattle.supervisor.specs.declared.session.SessionState.{SessionState}
 use Rattle.supervisor.specs.Session.{activity, session_desk, session_told}
 
 -- It is open, and the bytes are its store's: they stand for its number and some bytes, and what runs in it follows the desk
 -- over these.
-pub record IsOpenOver (s : Session) (held : List ℕ) : Type 0 where
+pub record IsOpenOver (s : SessionState) (held : List ℕ) : Type 0 where
   pub still_open : s.closed ≡ false
   pub committed : List ℕ
   pub shows : Shows held s.store
@@ -16,12 +16,12 @@ pub record IsOpenOver (s : Session) (held : List ℕ) : Type 0 where
   pub number : number_of s.store ≡ number_after s.opened (session_desk s committed)
 
 -- and this is the desk, under the directory of the store, and its pages fit the frames
-pub record ShowsDesk (s : Session) (held : List ℕ) (desk : Desk) : Type 0 where
+pub record ShowsDesk (s : SessionState) (held : List ℕ) (desk : Desk) : Type 0 where
   pub over : IsOpenOver s held
   pub directory : s.store.header.directory ≡ (activity s).reach.directory
   pub frames : HasFrames (activity s).reach
   pub is : desk ≡ session_desk s over.committed
 
 -- what is seen of it, as of a supervisor
-abbrev pub view_of : Session → View
+abbrev pub view_of : SessionState → View
 view_of s = seen (session_told s) (ShowsDesk s)

@@ -1,11 +1,11 @@
 -- What a session tells while it shows a desk is that desk's.
 use Rattle.std.proofs.Common.{ℕ, List, sym, ◌∙◌, ap}
 use Rattle.supervisor.specs.Below.{Desk, standing_of, Stands, TellsDesk}
-use Rattle.supervisor.specs.declared.session.Session.{Session}
+use Rattle.supervisor.specs.declared.session.SessionState.{SessionState}
 use Rattle.supervisor.specs.Session.{session_told}
 use Rattle.supervisor.specs.Shown.{ShowsDesk}
 
-pub shown-told : (s : Session) (held : List ℕ) (desk : Desk) → ShowsDesk s held desk → TellsDesk (session_told s) held desk
+pub shown-told : (s : SessionState) (held : List ℕ) (desk : Desk) → ShowsDesk s held desk → TellsDesk (session_told s) held desk
 shown-told s held desk shown = record {
   still_open = shown.over.still_open;
   open_desk = ap (λ (that : Desk). that.closed) shown.is ∙ shown.over.still_open;

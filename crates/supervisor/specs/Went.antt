@@ -4,7 +4,7 @@ use Rattle.flat_machine.specs.declared.machine.Plain.{Plain}
 use Rattle.supervisor.specs.Below.{commit_call, commits, Desk, Doubt, ended, ending_told, FailsCounted, Fine, fine_step, Ghosts, HasNumbers, held_of, IfJournal, IsAtCommit, IsEitherOf, IsSure, journal_in, JournalAfter, Leaves, most_lines, number_after, number_in, number_of, OnlyWrites, ordered, Over, Reads, Rose, seat_of, standing_of, stands, Tally, tally_counts, ToldAfterEnd, turn, turn_fails, Turned, TurnEnd, Turning, Word, writes_due, WritesMore}
 use Rattle.desk.specs.declared.answers.TurnEnd.TheVariants as end
 use Rattle.desk.specs.declared.event.Event.TheVariants as event
-use Rattle.supervisor.specs.declared.session.Session.{Session}
+use Rattle.supervisor.specs.declared.session.SessionState.{SessionState}
 use Rattle.supervisor.specs.Causes.{answer_of, IsTurnEnd, LeavesStore, TellsNumber}
 use Rattle.supervisor.specs.Session.{IsSound, activity, order_of, session_desk, session_told}
 use Rattle.supervisor.specs.Shown.{IsOpenOver}
@@ -22,21 +22,21 @@ IsTurned end.Shut = ⊥
 IsTurned _ = Unit {0}
 
 -- the desk at the commit call of who sits in a seat, at this state, after that went well
-abbrev pub fine_desk : Session → (committed : List ℕ) → (seat : ℕ) → Plain → Desk
+abbrev pub fine_desk : SessionState → (committed : List ℕ) → (seat : ℕ) → Plain → Desk
 fine_desk s committed seat now =
     record (ended (ordered (session_desk s committed) (commit_call (activity s) seat committed (order_of s) now)) (number_in (activity s).seating seat)) {
       committed = record (session_desk s committed).committed { bytes = now.store };
     }
 
 -- an image stands for what stood before a commit, or, where the order is that of the commit gone well, for what stands then
-abbrev pub IsEitherSide : Session → (committed : List ℕ) → (fine new : Desk) → List ℕ → Type 0
+abbrev pub IsEitherSide : SessionState → (committed : List ℕ) → (fine new : Desk) → List ℕ → Type 0
 IsEitherSide old committed fine new image =
     (stands image ≡ standing_of old.opened (session_desk old committed)) ⊎ (fine.order ≡ new.order) × (stands image ≡ standing_of old.opened fine)
 
 -- A commit was what becomes of the commit call with a word, which isn't fine only where the disk's faults rose. While the session is
 -- open its bytes are sure, and their journal has one record more. A crash in it leaves what stood before or after it; after a doubt
 -- there is one place with whose byte the commit stands.
-pub record HasCommitted {W : Type 0} (G : Ghosts W) (seat : ℕ) (now : Plain) (end : TurnEnd) (old new : Session) (tallied told : Tally) (before after : W) (committed : List ℕ) : Type 0 where
+pub record HasCommitted {W : Type 0} (G : Ghosts W) (seat : ℕ) (now : Plain) (end : TurnEnd) (old new : SessionState) (tallied told : Tally) (before after : W) (committed : List ℕ) : Type 0 where
   pub word : Word
   pub reads : (counted : ℕ) → Reads word counted
   pub next : Desk
@@ -51,14 +51,14 @@ pub record HasCommitted {W : Type 0} (G : Ghosts W) (seat : ℕ) (now : Plain) (
   pub doubt : word ≡ Doubt → ((fine_desk old committed seat now).order ≡ next.order) × ((gate : ℕ) × Leaves G (λ image seen. stands (slice_set image gate 165) ≡ standing_of old.opened (fine_desk old committed seat now)) after after)
 
 -- where the session is open over sure bytes, at the commit call of a run of the desk
-abbrev pub CommitsAt : {W : Type 0} (G : Ghosts W) (seat : ℕ) (end : TurnEnd) (old new : Session) (tallied told : Tally) (before after : W) → Type 0
+abbrev pub CommitsAt : {W : Type 0} (G : Ghosts W) (seat : ℕ) (end : TurnEnd) (old new : SessionState) (tallied told : Tally) (before after : W) → Type 0
 CommitsAt G seat end old new tallied told before after =
     (begins : Word → Turning) → IsSure G before → (over : IsOpenOver old (held_of G before))
     → (at : IsAtCommit begins (activity old) seat over.committed (order_of old) (tally_counts tallied))
     → HasCommitted G seat at.now end old new tallied told before after over.committed
 
 -- A turn was one of the desk, in the same way.
-pub record TurnHasRun {W : Type 0} (G : Ghosts W) (activation limit : ℕ) (end : TurnEnd) (old new : Session) (told : Tally) (before after : W) (committed : List ℕ) : Type 0 where
+pub record TurnHasRun {W : Type 0} (G : Ghosts W) (activation limit : ℕ) (end : TurnEnd) (old new : SessionState) (told : Tally) (before after : W) (committed : List ℕ) : Type 0 where
   pub word : Word
   pub next : Desk
   pub step : turn word activation limit (session_desk old committed) ≡ Over next (tally_counts told) (ending_told end new.printed)
@@ -72,7 +72,7 @@ pub record TurnHasRun {W : Type 0} (G : Ghosts W) (activation limit : ℕ) (end 
   pub doubt : word ≡ Doubt → new.closed ≡ true → ((fine_step (activity old).programs (event.Turn activation limit) (session_desk old committed)).order ≡ next.order) × ((gate : ℕ) × Leaves G (λ image seen. stands (slice_set image gate 165) ≡ standing_of old.opened (fine_step (activity old).programs (event.Turn activation limit) (session_desk old committed))) after after)
 
 -- how the commit call of who sits in a seat ended, what was counted, and what the answer tells of the store and of the disk
-pub record EndsCommit {W : Type 0} (G : Ghosts W) (seat : ℕ) (how : TurnEnd) (old : Session) (tallied counted : Tally) (before after : W) : Type 0 where
+pub record EndsCommit {W : Type 0} (G : Ghosts W) (seat : ℕ) (how : TurnEnd) (old : SessionState) (tallied counted : Tally) (before after : W) : Type 0 where
   pub only : OnlyWrites G before after
   pub end : IsCommitEnd how
   pub ran : counted.ran ≤ tallied.ran + 1
@@ -81,7 +81,7 @@ pub record EndsCommit {W : Type 0} (G : Ghosts W) (seat : ℕ) (how : TurnEnd) (
   pub failed : FailsCounted (turn_fails how) (G.disk_faults before) (G.disk_faults after)
 
 -- and what it did with the session
-pub record HasCommitCall {W : Type 0} (G : Ghosts W) (seat : ℕ) (how : TurnEnd) (old new : Session) (tallied counted : Tally) (before after : W) : Type 0 where
+pub record HasCommitCall {W : Type 0} (G : Ghosts W) (seat : ℕ) (how : TurnEnd) (old new : SessionState) (tallied counted : Tally) (before after : W) : Type 0 where
   pub ends : EndsCommit G seat how old tallied counted before after
   pub sound : IsSound new
   pub writes : WritesMore (G.writes before) (G.writes after) (writes_due how)
@@ -90,7 +90,7 @@ pub record HasCommitCall {W : Type 0} (G : Ghosts W) (seat : ℕ) (how : TurnEnd
   pub went : CommitsAt G seat how old new tallied counted before after
 
 -- What a turn of an activation did: the cause of its end, what is told of it, what becomes of the store, and, from sure bytes, `TurnHasRun`.
-pub record HasTurnEnd {W : Type 0} (G : Ghosts W) (activation limit : ℕ) (how : TurnEnd) (old new : Session) (counted : Tally) (before after : W) : Type 0 where
+pub record HasTurnEnd {W : Type 0} (G : Ghosts W) (activation limit : ℕ) (how : TurnEnd) (old new : SessionState) (counted : Tally) (before after : W) : Type 0 where
   pub sound : IsSound new
   pub only : OnlyWrites G before after
   pub writes : WritesMore (G.writes before) (G.writes after) (writes_due how)

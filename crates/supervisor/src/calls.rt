@@ -24,63 +24,62 @@ fn told(tally: Tally, end: TurnEnd) -> Turn
 }
 
 impl Session {
-    ghost use Rattle.supervisor.specs.Session.{IsSound, activity, order_of, records_told, fixed_of, session_told, number_told};
+    ghost use Rattle.supervisor.specs.Session.{activity, order_of, records_told, fixed_of, session_told, number_told};
     ghost use Rattle.supervisor.specs.Shown.{ShowsDesk};
     ghost use Rattle.supervisor.specs.Causes.{AnswersBegin, IsTurnAnswer, NeverDamaged, ReopenedNumber, TurnLeaves};
     ghost use Rattle.seats.specs.Seating.{numbers as numbers_seated};
 
     /// The program with this place begins with four values.
     pub fn begin(&mut self, program: u16, args: [u32; 4]) -> Begun
-        requires sound { IsSound self.old }
         requires program { program < length (fixed_of self.old).programs }
         requires room { (session_told self.old).given < (fixed_of self.old).begins }
-        ensures begun { HasBegun ShowsDesk session_told IsSound program args self.old self.new result }
+        ensures begun { HasBegun ShowsDesk session_told program args self.old self.new result }
         ensures answer { AnswersBegin self.old program result }
     {
-        if self.closed {
+        if self.state.closed {
             return Begun::Shut;
         }
-        let begun = self.activations.begin(program, args);
-        self.activations.sound();
+        let begun = self.state.activations.begin(program, args);
+        self.state.activations.sound();
         begun
     }
 
     /// A turn of an activation with at most so many rows, a million at most.
     pub fn turn<W: Outside>(&mut self, outside: &mut W, activation: u32, limit: u32) -> Turn
-        requires sound { IsSound self.old }
         requires limit { limit ≤ 1000000 }
         requires turns { (session_told self.old).turns < 2 ^ 32 }
         requires bytes { HoldsStore W.Outside (fixed_of self.old).header outside.old }
-        ensures turned { HasTurned ShowsDesk session_told IsSound W.Outside activation limit
+        ensures turned { HasTurned ShowsDesk session_told W.Outside activation limit
             self.old self.new outside.old outside.new result }
         ensures answer { IsTurnAnswer self.old activation limit result }
         ensures stored { TurnLeaves W.Outside activation result self.old self.new outside.old outside.new }
     {
         let mut tally = Tally::new();
-        if self.closed {
+        if self.state.closed {
             return told(tally, TurnEnd::Shut);
         }
-        self.turns += 1;
-        let end = self.end_of_turn(outside, activation, limit, &mut tally);
+        self.state.turns += 1;
+        let end = self
+            .state
+            .end_of_turn(outside, activation, limit, &mut tally);
         told(tally, end)
     }
 
     /// Brings the store home, so that its journal begins again.
     pub fn checkpoint<W: Outside>(&mut self, outside: &mut W) -> Stored
-        requires sound { IsSound self.old }
         requires bytes { HoldsStore W.Outside (fixed_of self.old).header outside.old }
-        ensures stored { HasStored ShowsDesk session_told IsSound W.Outside
+        ensures stored { HasStored ShowsDesk session_told W.Outside
             self.old self.new outside.old outside.new result }
         ensures number { StoredNumber result (number_told self.old) }
         ensures emptied { (number : ℕ) → result ≡ Stored.Number number → records_told self.new ≡ 0 }
     {
-        if self.closed {
+        if self.state.closed {
             return Stored::Shut;
         }
-        match self.store.checkpoint(outside) {
-            Ok(()) => Stored::Number(self.store.number()),
+        match self.state.store.checkpoint(outside) {
+            Ok(()) => Stored::Number(self.state.store.number()),
             Err(Failed) => {
-                self.closed = true;
+                self.state.closed = true;
                 Stored::Closed
             }
         }
@@ -88,26 +87,25 @@ impl Session {
 
     /// A crash: it forgets all that isn't on the disk, and reads the store again. It only asks the disk.
     pub fn forget<W: Outside>(&mut self, outside: &mut W) -> Reopened
-        requires sound { IsSound self.old }
         requires bytes { HoldsStore W.Outside (fixed_of self.old).header outside.old }
-        ensures crashed { HasCrashed ShowsDesk session_told IsSound W.Outside
+        ensures crashed { HasCrashed ShowsDesk session_told W.Outside
             self.old self.new outside.old outside.new result }
         ensures number { ReopenedNumber result (number_told self.new) }
         ensures undamaged { NeverDamaged W.Outside self.old outside.old result }
     {
-        if self.closed {
+        if self.state.closed {
             return Reopened::Shut;
         }
-        self.activations.forget();
-        self.activations.sound();
-        match self.store.reopen(outside) {
-            Ok(()) => Reopened::Number(self.store.number()),
+        self.state.activations.forget();
+        self.state.activations.sound();
+        match self.state.store.reopen(outside) {
+            Ok(()) => Reopened::Number(self.state.store.number()),
             Err(ReopenFault::Damaged(offset)) => {
-                self.closed = true;
+                self.state.closed = true;
                 Reopened::Damaged(offset)
             }
             Err(ReopenFault::DiskFault) => {
-                self.closed = true;
+                self.state.closed = true;
                 Reopened::DiskFault
             }
         }
@@ -115,20 +113,18 @@ impl Session {
 
     /// The store's number.
     pub fn number(&self) -> u64
-        requires { IsSound self.now }
         ensures number { result ≡ number_told self.now }
         ensures shown { OfShown (ShowsDesk self.now) (λ it. result ≡ number_after (fixed_of self.now).opened it) }
     {
-        self.store.number()
+        self.state.store.number()
     }
 
     /// The numbers of those that are active, ascending.
     pub fn active(&self) -> ArrayVec<u32, 16>
-        requires { IsSound self.now }
         ensures active { result.items ≡ numbers_seated (activity self.now).seating }
         ensures shown { OfShown (ShowsDesk self.now) (λ desk. result.items ≡ numbers desk) }
     {
-        self.activations.active()
+        self.state.activations.active()
     }
 
     /// What the activation of the last turn that ended by a commit had printed.
@@ -136,14 +132,14 @@ impl Session {
         ensures bytes { result.now ≡ (session_told self.now).printed }
         ensures few { length result.now ≤ 4096 }
     {
-        self.printed.as_slice()
+        self.state.printed.as_slice()
     }
 
     /// The commits, in order, with one in doubt at most at the end.
     pub fn order(&self) -> &[Committed]
-        requires { IsSound self.now }
-        ensures { map (λ commit. (commit.activation, commit.steps)) result.now ≡ order_of self.now }
+        ensures order { map (λ commit. (commit.activation, commit.steps)) result.now ≡ order_of self.now }
+        ensures few { length result.now ≤ (fixed_of self.now).begins }
     {
-        &self.order
+        &self.state.order
     }
 }

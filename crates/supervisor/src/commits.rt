@@ -2,13 +2,13 @@
 ghost use Rattle.std.specs.Prelude.{◌≡◌, ◌+◌, ◌<◌, ◌≤◌, ◌++◌, ◌∷◌, [], true, false, vec_len, vec_capacity};
 ghost use Rattle.supervisor.specs.Below.{has, HoldsStore, number_in, sitter};
 
-use super::session::Session;
+use super::session::SessionState;
 use activations::Tally;
 use desk::{Committed, TurnEnd};
 use outside::Outside;
 use store::Kept;
 
-impl Session {
+impl SessionState {
     ghost use Rattle.supervisor.specs.Session.{IsSound, activity};
     ghost use Rattle.supervisor.specs.Went.{HasCommitCall};
 

@@ -8,12 +8,19 @@ use desk::Committed;
 use flat_machine::{Printed, Program};
 use outside::Outside;
 use std::alloc::Global;
+use std::marker::Model;
 use store::{Durable, OpenFault};
 
 /// What answers the events of a schedule: a store that is open, what runs over it, and the commits so far. All memory is taken
 /// when it is opened.
 #[derive(Drop)]
 pub struct Session {
+    pub(super) state: SessionState,
+}
+
+/// What a session is made of: how many turns were asked of it, and whether it is closed, beside what runs.
+#[derive(Drop)]
+pub struct SessionState {
     pub(super) store: Durable,
     pub(super) activations: Activations,
     pub(super) order: Vec<Committed>,
@@ -22,6 +29,17 @@ pub struct Session {
     pub(super) begins: u32,
     pub(super) turns: u64,
     pub(super) closed: bool,
+}
+
+impl Model for Session {
+    ghost use Rattle.supervisor.specs.declared.session.SessionState.{SessionState};
+    ghost use Rattle.supervisor.specs.Session.{IsSound};
+
+    ghost Value = { SessionState };
+
+    ghost view = { λ s. s.state };
+
+    ghost invariant = { λ s. IsSound s.state };
 }
 
 impl Session {
@@ -55,7 +73,7 @@ impl Session {
         let activations = Activations::new(alloc, store.header(), frames, programs)?;
         activations.sound();
         let opened = store.number();
-        Ok(Session {
+        let state = SessionState {
             store,
             activations,
             order,
@@ -64,6 +82,7 @@ impl Session {
             begins,
             turns: 0,
             closed: false,
-        })
+        };
+        Ok(Session { state })
     }
 }

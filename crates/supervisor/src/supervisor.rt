@@ -5,13 +5,11 @@ use desk::{Begun, Committed, Reopened, Stored, Supervisor, Turn};
 use outside::Outside;
 
 impl Supervisor for Session {
-    ghost use Rattle.supervisor.specs.Session.{IsSound, session_told};
+    ghost use Rattle.supervisor.specs.Session.{session_told};
     ghost use Rattle.supervisor.specs.Shown.{ShowsDesk};
     ghost use Rattle.supervisor.specs.ShownLaws.{shown-told};
 
     ghost shows = { ShowsDesk };
-
-    ghost sound = { IsSound };
 
     ghost told = { session_told };
 

@@ -2,12 +2,12 @@
 ghost use Rattle.std.specs.Prelude.{◌≡◌, ◌+◌, ◌*◌, ◌-◌, ◌<◌, ◌≤◌, [], false};
 ghost use Rattle.supervisor.specs.Below.{HoldsStore};
 
-use super::session::Session;
+use super::session::SessionState;
 use activations::Tally;
 use desk::TurnEnd;
 use outside::Outside;
 
-impl Session {
+impl SessionState {
     ghost use Rattle.supervisor.specs.Below.{AreRowsWithin};
     ghost use Rattle.supervisor.specs.Session.{IsSound, activity};
     ghost use Rattle.supervisor.specs.Went.{HasTurnEnd};

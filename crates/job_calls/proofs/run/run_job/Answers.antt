@@ -1,9 +1,9 @@
 use Rattle.std.proofs.lemmas.Grind.{common_steps}
-use Rattle.job_calls.proofs.Common.{rules, ◌≡◌, ◌∙◌, ap, sym, ◌≤◌, subst, arith, length, get_or, All, List, ℕ, refl, Some, map, count_by-le-length, Ghosts, Fixed, order_told, Desk, IsUnbroken, Event, Job, Session, ghosts, is_turn, HasOpened, Replays, Replayed, call, Status, status_of_replay, OpensBy, HappenedTo, names_of, fixed_of, opening_of, span, order_of, TellsBy}
+use Rattle.job_calls.proofs.Common.{rules, ◌≡◌, ◌∙◌, ap, sym, ◌≤◌, subst, arith, length, get_or, All, List, ℕ, refl, Some, map, count_by-le-length, Ghosts, Fixed, order_told, Desk, IsUnbroken, Event, Job, SessionState, ghosts, is_turn, HasOpened, Replays, Replayed, call, Status, status_of_replay, OpensBy, HappenedTo, names_of, fixed_of, opening_of, span, order_of, TellsBy}
 use Rattle.arrayvec.specs.ArrayVec.{ArrayVec}
 use Rattle.job_calls.proofs.CauseLemmas.{opens-by, put-rose, put-same, disk-rose}
 use Rattle.schedule_replay.proofs.ReportLemmas.{replays_so}
-use Rattle.job_calls.proofs.NameLemmas.{few-told, name-unbroken, ready-to-run}
+use Rattle.job_calls.proofs.NameLemmas.{name-unbroken, ready-to-run}
 use Rattle.job_calls.proofs.RunLemmas.{happened-by, has-opened, first_opening}
 use Rattle.job_calls.proofs.run.run_job.Goals as goal
 
@@ -19,11 +19,11 @@ replay-replayed-requires g c = record {
 pub filled-requires-clause-room : goal.filled-requires-clause-room
 filled-requires-clause-room g c =
     let ran = c.replay-replayed in
-    let few : length c.order.result.now ≤ c.in-Ok.session.begins = few-told c.order.result.now ran.new.desk c.in-Ok.session c.order.ensures ran.ensures.answered.sound.room.commits ran.ensures.answered.tells.fixed in
+    let few : length c.order.result.now ≤ c.in-Ok.session.begins = subst (λ (fixed : Fixed). length c.order.result.now ≤ fixed.begins) ran.ensures.answered.tells.fixed c.order.ensures.few in
     omega (arith, few, c.in-Ok.ensures.made.new.begins_are, c.requires.room)
 
 -- what was replayed, in the job's words
-replays : {W : Type 0} (G : Ghosts W) (names : List (List ℕ)) (events : List Event) (job : Job) (desk new : Session) (start after : W) (result : Replayed)
+replays : {W : Type 0} (G : Ghosts W) (names : List (List ℕ)) (events : List Event) (job : Job) (desk new : SessionState) (start after : W) (result : Replayed)
     → names ≡ names_of job → events ≡ job.events.items
     → ((first : Desk) → HasOpened ghosts G desk start first → Replays ghosts G (opening_of names (fixed_of desk) first) events new (span start after) result)
     → (first : Desk) → HasOpened ghosts G desk start first → Replays ghosts G (opening_of (names_of job) (fixed_of desk) first) job.events.items new (span start after) result
@@ -58,7 +58,7 @@ returns g c = record {
       let did = replays G _ c.deref-2.result.now job desk new start after result (ap (map (λ name. name.items)) c.deref.ensures.value) c.deref-2.ensures.value
       (λ first opened. replays_so ghosts G _ _ _ _ result (c.replay-replayed.ensures.reports first opened) (c.replay-replayed.ensures.undamaged first opened)) in
       subst (λ (now : Status). HappenedTo G job (call before after (order_told c.filled.result.items) now) (Some new)) (sym c.status_of_replay.ensures)
-      (subst (λ (order : List (ℕ × ℕ)). HappenedTo G job (call before after order (status_of_replay result)) (Some new)) (sym (ap order_told c.filled.ensures ∙ c.order.ensures))
+      (subst (λ (order : List (ℕ × ℕ)). HappenedTo G job (call before after order (status_of_replay result)) (Some new)) (sym (ap order_told c.filled.ensures ∙ c.order.ensures.order))
       (happened-by G g.met.W.Outside.fewer_later g.met.W.Outside.printed_now job before start after desk new c.in-Ok.ensures.made.opened c.in-Ok.ensures.asks c.in-Ok.ensures.made.new.programs_are (ap (λ (fixed : Fixed). fixed.opened) c.replay-replayed.ensures.answered.tells.fixed)
       c.replay-replayed.ensures.answered.honest c.replay-replayed.ensures.answered.time c.replay-replayed.ensures.answered.told c.in-Ok.ensures.unfailed result did c.in-Ok.ensures.made.new.none_committed result refl c.replay-replayed.ensures.answered.cause
       (subst (λ (names : List (List ℕ)). TellsBy G names job.events.items (order_of desk) (order_of new) start after result) (ap (map (λ name. name.items)) c.deref.ensures.value)
@@ -75,7 +75,7 @@ returns g c = record {
       let few : length c.deref-2.result.now ≡ length c.args.job.events.items = ap (λ (these : List Event). length these) c.deref-2.ensures.value in
       record {
         handed = search rules;
-        fits = record { sound = ran.sound; bytes = ran.bytes; turns = omega (arith, ran.tells.turns, count_by-le-length is_turn c.deref-2.result.now, few, c.requires.ready.few, c.in-Ok.ensures.made.new.no_turns) };
+        fits = record { bytes = ran.bytes; turns = omega (arith, ran.tells.turns, count_by-le-length is_turn c.deref-2.result.now, few, c.requires.ready.few, c.in-Ok.ensures.made.new.no_turns) };
         faults = record {
           disk = λ is. let rose = disk-rose g.W.Outside c.open.new.outside replayed.new.outside c.in-Ok.session replayed.new.desk replayed.result c.in-Ok.ensures.made.new.still_open replayed.ensures.goes (same ∙ is) in omega (arith, rose, asks.disk);
           put = λ is. let rose = put-rose before after replayed.result cause (same ∙ is) in omega (arith, rose, asks.put);

@@ -17,7 +17,7 @@ returns-in-Begin g c =
     let closed = ap (λ (told : Told). told.closed) told in
     went_event S g.W.Outside g.met.W.Outside.fewer_later g.met.W.Outside.printed_now L.shown_told names (names_are (λ name. name.items) c.args.names.now c.requires.unbroken) c.args.event (event.Begin c.in-Begin.program c.in-Begin.args) (happening_lines names 0 (begun_told c.in-Begin.program begun.result)) old begun.new.self w w c.put_begun-put.new.outside c.put_begun-put.result c.going_after_begin.result (going_begun begun.result) c.and.result
     c.in-Begin.is c.going_after_begin.ensures c.and.ensures (c.put_begun-put.ensures 0)
-    begun.ensures.sound after (store_asked S g.W.Outside old begun.new.self w w after.fixed (asks_none g.W.Outside w) c.requires.ready.bytes)
+    after (store_asked S g.W.Outside old begun.new.self w w after.fixed (asks_none g.W.Outside w) c.requires.ready.bytes)
     (λ was. ap going_begun (begun.ensures.shut.shut.1 was)) (begun_closes begun.result _ _ closed begun.ensures.shut) (λ disk held. goes_begin S g.W.Outside begun.result old begun.new.self w c.put_begun-put.new.outside closed begun.ensures.shut)
     (λ start sure shows. (begin_step S g.W.Outside names (S.told old).fixed.programs L.shown_told c.in-Begin.program c.in-Begin.args begun.result start old begun.new.self w sure shows (begun.ensures.did _ start shows), undamaged_begun begun.result))
     (lines_one names (event.Begin c.in-Begin.program c.in-Begin.args) (begun_told c.in-Begin.program begun.result) 0 (S.told old).order (S.told begun.new.self).order (begun.result, refl) (enters_begun c.in-Begin.program begun.result _ _ (ap (λ (told : Told). told.order) told)))
@@ -39,7 +39,7 @@ returns-in-Checkpoint g c =
     let closed = ap (λ (told : Told). told.closed) told in
     went_event S G g.met.W.Outside.fewer_later g.met.W.Outside.printed_now g.met.S.Supervisor.shown_told names (names_are (λ name. name.items) c.args.names.now c.requires.unbroken) c.args.event event.Checkpoint (happening_lines names (stored_number stored.result) (stored_told stored.result)) old stored.new.self c.args.outside.now stored.new.outside c.put_stored-put.new.outside c.put_stored-put.result c.going_after_checkpoint.result (going_if (stored_closes stored.result)) c.and-in-Checkpoint.result
     c.in-Checkpoint.is c.going_after_checkpoint.ensures c.and-in-Checkpoint.ensures (c.put_stored-put.ensures names)
-    stored.ensures.sound (after_other event.Checkpoint (stored_closes stored.result) (S.told old) (S.told stored.new.self) told) stored.ensures.calls
+    (after_other event.Checkpoint (stored_closes stored.result) (S.told old) (S.told stored.new.self) told) stored.ensures.calls
     (λ was. ap (λ (answer : Stored). going_if (stored_closes answer)) (stored.ensures.shut.shut.1 was)) (closed ∙ if_closes (stored_closes stored.result))
     (λ disk held. goes_if S G (stored_closes stored.result) (stored_fails stored.result) old stored.new.self c.args.outside.now stored.new.outside c.put_stored-put.new.outside closed stored.ensures.shut (stored_shut stored.result) stored.ensures.failed disk)
     (λ start sure shows. (checkpoint_step S G names (S.told old).fixed.programs (S.told old).fixed.opened start stored.new.self c.args.outside.now stored.new.outside stored.result (stored.ensures.did start sure shows) stored.ensures.writes stored.ensures.failed, undamaged_if (stored_closes stored.result)))
@@ -59,7 +59,7 @@ returns-in-Crash g c =
     let closed = ap (λ (told : Told). told.closed) told in
     went_event S G g.met.W.Outside.fewer_later g.met.W.Outside.printed_now g.met.S.Supervisor.shown_told names (names_are (λ name. name.items) c.args.names.now c.requires.unbroken) c.args.event event.Crash (happening_lines names (reopened_number reopened.result) (reopened_told lost reopened.result)) old reopened.new.self w reopened.new.outside c.put_reopened-put.new.outside c.put_reopened-put.result c.going_after_crash.result (going_by reopened.result) c.and-in-Crash.result
     c.in-Crash.is c.going_after_crash.ensures c.and-in-Crash.ensures (c.put_reopened-put.ensures names)
-    reopened.ensures.sound after (store_asked S G old reopened.new.self w reopened.new.outside after.fixed reopened.ensures.asks c.requires.ready.bytes)
+    after (store_asked S G old reopened.new.self w reopened.new.outside after.fixed reopened.ensures.asks c.requires.ready.bytes)
     (λ was. ap going_by (reopened.ensures.shut.shut.1 was)) (closed ∙ crash_closes reopened.result)
     (λ disk held. goes_crash S G reopened.result old reopened.new.self w reopened.new.outside c.put_reopened-put.new.outside closed reopened.ensures.shut reopened.ensures.failed reopened.ensures.damage disk (held ∙ reopened.ensures.asks.held))
     (λ start sure shows.

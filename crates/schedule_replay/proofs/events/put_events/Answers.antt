@@ -59,7 +59,7 @@ loop-event-init g c =
     let L = g.met.S.Supervisor in
     record {
       tells = tells_none g.W.Outside (map (λ name. name.items) c.args.names.now) (S.told c.args.desk.now).order c.args.outside.now 0;
-      answered = answered_none S g.W.Outside g.met.W.Outside.fewer_later c.args.desk.now c.args.outside.now c.requires.ready.sound c.requires.ready.bytes;
+      answered = answered_none S g.W.Outside g.met.W.Outside.fewer_later c.args.desk.now c.args.outside.now c.requires.ready.bytes;
       still = λ was_open. was_open;
       shut = λ was. (refl, was);
       ran = λ start sure shows. ran_none S g.W.Outside g.met.W.Outside.printed_now L.shown_told (map (λ name. name.items) c.args.names.now) (S.told c.args.desk.now).fixed.programs start c.args.desk.now c.args.outside.now sure shows;

@@ -62,7 +62,7 @@ returns-in_err-put_closing-in-On g c = record {
   answered = answered_broken g.S.Supervisor g.W.Outside g.met.W.Outside.fewer_later c.args.events.now c.args.desk.now c.put_events.new.desk c.args.outside.now c.put_closing.new.outside c.put_closing.result c.from_residual-in_err-put_closing-in-On.result (search rules) c.from_residual-in_err-put_closing-in-On.ensures.0
       (answered_then g.S.Supervisor g.W.Outside g.met.W.Outside.fewer_later c.args.events.now _ c.args.desk.now c.put_events.new.desk c.args.outside.now c.put_events.new.outside c.put_closing.new.outside c.in_ok-going.going c.put_closing.result
       (answered_on g.S.Supervisor g.W.Outside g.met.W.Outside.fewer_later [] c.args.events.now c.args.desk.now c.args.desk.now c.put_events.new.desk c.args.outside.now c.put_one.new.outside c.put_events.new.outside c.in_ok-put_one.field-0 (Ok c.in_ok-going.going)
-      (answered_puts g.S.Supervisor g.W.Outside g.met.W.Outside.fewer_later _ c.args.desk.now c.args.outside.now c.put_one.new.outside (Ok c.in_ok-put_one.field-0) c.requires.ready.sound c.requires.ready.bytes c.in_ok-put_one.ensures) c.in_ok-going.ensures.answered) c.put_closing.ensures.some.2);
+      (answered_puts g.S.Supervisor g.W.Outside g.met.W.Outside.fewer_later _ c.args.desk.now c.args.outside.now c.put_one.new.outside (Ok c.in_ok-put_one.field-0) c.requires.ready.bytes c.in_ok-put_one.ensures) c.in_ok-going.ensures.answered) c.put_closing.ensures.some.2);
 }
 
 pub returns-in_ok-put_closing-in-On : goal.returns-in_ok-put_closing-in-On
@@ -85,7 +85,7 @@ returns-in_ok-put_closing-in-On g c = record {
   answered = answered_well g.S.Supervisor g.W.Outside g.met.W.Outside.fewer_later c.args.events.now c.args.desk.now c.put_events.new.desk c.args.outside.now c.put_closing.new.outside c.in_ok-put_closing-in-On.field-0 going.On
       (answered_then g.S.Supervisor g.W.Outside g.met.W.Outside.fewer_later c.args.events.now _ c.args.desk.now c.put_events.new.desk c.args.outside.now c.put_events.new.outside c.put_closing.new.outside c.in_ok-going.going (Ok c.in_ok-put_closing-in-On.field-0)
       (answered_on g.S.Supervisor g.W.Outside g.met.W.Outside.fewer_later [] c.args.events.now c.args.desk.now c.args.desk.now c.put_events.new.desk c.args.outside.now c.put_one.new.outside c.put_events.new.outside c.in_ok-put_one.field-0 (Ok c.in_ok-going.going)
-      (answered_puts g.S.Supervisor g.W.Outside g.met.W.Outside.fewer_later _ c.args.desk.now c.args.outside.now c.put_one.new.outside (Ok c.in_ok-put_one.field-0) c.requires.ready.sound c.requires.ready.bytes c.in_ok-put_one.ensures) c.in_ok-going.ensures.answered) c.in_ok-put_closing-in-On.ensures.some.2);
+      (answered_puts g.S.Supervisor g.W.Outside g.met.W.Outside.fewer_later _ c.args.desk.now c.args.outside.now c.put_one.new.outside (Ok c.in_ok-put_one.field-0) c.requires.ready.bytes c.in_ok-put_one.ensures) c.in_ok-going.ensures.answered) c.in_ok-put_closing-in-On.ensures.some.2);
 }
 
 pub returns-in_default : goal.returns-in_default
@@ -107,5 +107,5 @@ returns-in_default g c =
       goes = goes_since S G how old old new before between middle refl (λ was_open. was_open) (omega (arith, c.in_ok-put_one.ensures.only.disk)) c.in_ok-going.ensures.goes;
       shut = c.in_ok-going.ensures.shut;
       answered = answered_on S G g.met.W.Outside.fewer_later [] c.args.events.now old old new before between middle c.in_ok-put_one.field-0 (Ok how)
-          (answered_puts S G g.met.W.Outside.fewer_later _ old before between (Ok c.in_ok-put_one.field-0) c.requires.ready.sound c.requires.ready.bytes c.in_ok-put_one.ensures) c.in_ok-going.ensures.answered;
+          (answered_puts S G g.met.W.Outside.fewer_later _ old before between (Ok c.in_ok-put_one.field-0) c.requires.ready.bytes c.in_ok-put_one.ensures) c.in_ok-going.ensures.answered;
     }

@@ -62,7 +62,7 @@ loop-event-init g c =
     let old = c.args.desk.now in
     let w = c.args.outside.now in
     record {
-      answered = answered_none S G M.fewer_later old w c.requires.ready.sound c.requires.ready.bytes;
+      answered = answered_none S G M.fewer_later old w c.requires.ready.bytes;
       calls = calls_none G w;
       still = λ was_open. was_open;
       shut = λ was. (refl, was);

@@ -1,10 +1,10 @@
-use Rattle.supervisor.proofs.Common.{rules, held_of, byte_count, FlatStore, Header, most_lines, opened, Activity, Begins, activity, Session, length, false, ◌≡◌, refl, sym, ◌∙◌, ap, subst}
+use Rattle.supervisor.proofs.Common.{rules, held_of, byte_count, FlatStore, Header, most_lines, opened, Activity, Begins, activity, SessionState, length, false, ◌≡◌, refl, sym, ◌∙◌, ap, subst}
 use Rattle.supervisor.proofs.OpeningLemmas.{IsMade, made-opened, has-stood}
 use Rattle.supervisor.proofs.session.Session.open.Given as given
 use Rattle.supervisor.proofs.session.Session.open.Goals as goal
 
 -- the session that is made
-abbrev made_session : (g : given.Over) → goal.After-number-opened g → Session
+abbrev made_session : (g : given.Over) → goal.After-number-opened g → SessionState
 made_session g c = record {
   store = c.in_ok-store.store;
   activations = c.in_ok-activations.activations;
@@ -36,14 +36,6 @@ is-made g c =
 pub returns-clause-made : goal.returns-clause-made
 returns-clause-made g c = record {
   new = record {
-    sound = record {
-      ranges = search rules;
-      running = c.sound.ensures;
-      directory = (is-made g c).directory;
-      most = search rules;
-      room = search rules;
-      usable = λ still. c.in_ok-store.ensures.opened.usable;
-    };
     programs_are = search rules;
     begins_are = refl;
     none_given = search rules;
@@ -55,4 +47,14 @@ returns-clause-made g c = record {
   room = c.in_ok-store.ensures.opened.room;
   opened = λ honest told. made-opened c.args.frames (made_session g c) (is-made g c) g.W.Outside c.args.outside.now c.open.new.outside c.open.ensures.asks.asks (c.in_ok-store.ensures.opened.tracks honest told);
   told = λ told. has-stood (held_of g.W.Outside c.args.outside.now) c.in_ok-store.store (c.in_ok-store.ensures.opened.shows told);
+}
+
+pub invariant_of-result : goal.invariant_of-result
+invariant_of-result g c = record {
+  ranges = search rules;
+  running = c.sound.ensures;
+  directory = (is-made g c).directory;
+  most = search rules;
+  room = search rules;
+  usable = λ still. c.in_ok-store.ensures.opened.usable;
 }

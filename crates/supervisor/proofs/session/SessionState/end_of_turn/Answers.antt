@@ -1,7 +1,7 @@
 use Rattle.supervisor.proofs.Lemmas.{common_steps, rules, ℕ, arith, sym, ◌∙◌, subst, sure_on, few-taken, seat-found, TurnEnd, FailsCounted, turn_fails, activity, order_of, IfWaits, IfJournal, IfVictim, IsEndOfRows, number_of, TellsNumber, LeavesStore, Told, ToldAfterEnd, session_told, refl, number_in, asks_none, total, leaves-since, told-stored, commit-told, rows-counted, rows-number}
 use Rattle.store.proofs.WriteLemmas.{asks_only, writes_on}
 use Rattle.supervisor.proofs.TurnLemmas.{idle, ended, committed, nothing-counted, sound-ran, over-ran, store-over}
-use Rattle.supervisor.proofs.session.Session.end_of_turn.Goals as goal
+use Rattle.supervisor.proofs.session.SessionState.end_of_turn.Goals as goal
 
 pub run-requires-clause-can : goal.run-requires-clause-can
 run-requires-clause-can g c = record { directory = c.requires.sound.directory; usable = c.requires.sound.usable c.requires.open; room = c.requires.bytes }

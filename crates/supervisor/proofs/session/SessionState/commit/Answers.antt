@@ -1,10 +1,10 @@
-use Rattle.supervisor.proofs.Lemmas.{common_steps, rules, ◌≡◌, ◌+◌, ◌-◌, Fixed, session_told, ◌%◌, ◌^◌, ◌∙◌, ◌∷◌, [], length, refl, sym, ap, subst, arith, Some, length-append, true, false, has, Commit, row, begun_of, Kept, KeptStore, number_of, TracksStore, held_of, over_all, committed_at, sitter, number_in, taken-below, Activity, live_in, program_in, entry_in, store_over, desk_over, shown, KeepsDesk, rolled, reprinted, Session, activity, with_record, HoldsStore, Header, stored-sound, closes-now}
+use Rattle.supervisor.proofs.Lemmas.{common_steps, rules, ◌≡◌, ◌+◌, ◌-◌, Fixed, session_told, ◌%◌, ◌^◌, ◌∙◌, ◌∷◌, [], length, refl, sym, ap, subst, arith, Some, length-append, true, false, has, Commit, row, begun_of, Kept, KeptStore, number_of, TracksStore, held_of, over_all, committed_at, sitter, number_in, taken-below, Activity, live_in, program_in, entry_in, store_over, desk_over, shown, KeepsDesk, rolled, reprinted, SessionState, activity, with_record, HoldsStore, Header, stored-sound, closes-now}
 use Rattle.flat_machine.specs.After.{after as after_rows}
 use Rattle.store.specs.declared.keep.Kept.TheVariants.{Unwritten, Doubt}
 use Rattle.store.specs.Committed.{roomy, number_after, IsKeptAfter}
 use Rattle.supervisor.proofs.JournalLemmas.{commit-adds}
 use Rattle.supervisor.proofs.CommitLemmas.{order-more, writes-more, gone, has_place, sound-left, sound-closed, out-is, tracked, went-done, went-doubt, went-unwritten}
-use Rattle.supervisor.proofs.session.Session.commit.Goals as goal
+use Rattle.supervisor.proofs.session.SessionState.commit.Goals as goal
 
 pub committed_in-committed-requires-clause-seat : goal.committed_in-committed-requires-clause-seat
 committed_in-committed-requires-clause-seat g c = taken-below c.args.self.now.activations.seating c.requires.sound.running.sound.seating c.args.seat c.requires.taken
@@ -72,15 +72,15 @@ returns-in-Done g c = record {
       let order = c.enter_order.ensures.order in
       sound-left s seat c.requires.sound c.requires.taken _ pool 1 c.requires.open
       (record {
-        header = ap (λ (n : Session). n.store.header) others ∙ c.commit.ensures.header ∙ ap (λ (store : KeptStore). store.header) c.in_default.ensures.begun;
+        header = ap (λ (n : SessionState). n.store.header) others ∙ c.commit.ensures.header ∙ ap (λ (store : KeptStore). store.header) c.in_default.ensures.begun;
         running = c.sound-in-Done.ensures;
         live = (reprinted c.commit-in-Done.new.self seat entered.printed).live;
         is = c.swap_printed.ensures.left
             ∙ ap (λ (a : Activity). record a { live = (reprinted c.commit-in-Done.new.self seat entered.printed).live }) (c.commit-in-Done.ensures.shape ∙ ap (λ (a : Activity). rolled a seat pool) there);
-        begins = ap (λ (n : Session). n.begins) others;
-        turns = ap (λ (n : Session). n.turns) others;
-        closed = ap (λ (n : Session). n.closed) others;
-        usable = ap (λ (n : Session). n.store.bank.spoiled) others ∙ c.commit.ensures.usable c.in-Done.is;
+        begins = ap (λ (n : SessionState). n.begins) others;
+        turns = ap (λ (n : SessionState). n.turns) others;
+        closed = ap (λ (n : SessionState). n.closed) others;
+        usable = ap (λ (n : SessionState). n.store.bank.spoiled) others ∙ c.commit.ensures.usable c.in-Done.is;
         few = omega arith;
         longer = omega (arith, entered.order.ok.0, s.order.ok.0, ap length order ∙ length-append s.order.items (c.committed_in-committed.result ∷ []));
         room = c.enter_order.ensures.room;
@@ -95,8 +95,8 @@ returns-in-Done g c = record {
       let pool = c.commit-in-Done.new.self.reach.pool in
       let is : c.swap_printed.new.self ≡ reprinted (rolled (activity s) seat pool) seat entered.printed =
       c.swap_printed.ensures.left ∙ ap (λ (a : Activity). reprinted a seat entered.printed) (c.commit-in-Done.ensures.shape ∙ ap (λ (a : Activity). rolled a seat pool) there) in
-      let header = ap (λ (n : Session). n.store.header) others ∙ c.commit.ensures.header ∙ ap (λ (store : KeptStore). store.header) c.in_default.ensures.begun in
-      let closed : entered.closed ≡ false = ap (λ (n : Session). n.closed) others ∙ c.requires.open in
+      let header = ap (λ (n : SessionState). n.store.header) others ∙ c.commit.ensures.header ∙ ap (λ (store : KeptStore). store.header) c.in_default.ensures.begun in
+      let closed : entered.closed ≡ false = ap (λ (n : SessionState). n.closed) others ∙ c.requires.open in
       record {
         others = λ i.
             let fixed : Fixed = record { programs = (is i).programs; opened = (others i).opened; header = header i; begins = (others i).begins } in
@@ -111,7 +111,7 @@ returns-in-Done g c = record {
       let others = c.enter_order.ensures.others in
       record {
         lines = begun_of there.bank;
-        kept = ap (λ (n : Session). n.store.bank) others ∙ c.in-Done.ensures.kept ∙ ap (λ (store : KeptStore). with_record (roomy store.bank)) c.in_default.ensures.begun;
+        kept = ap (λ (n : SessionState). n.store.bank) others ∙ c.in-Done.ensures.kept ∙ ap (λ (store : KeptStore). with_record (roomy store.bank)) c.in_default.ensures.begun;
       };
   went =
       λ begins sure over at.
@@ -137,15 +137,15 @@ returns-in-Done g c = record {
       went-done G s seat c.requires.sound before after over at.now lines gives c.number-number.result (c.number-number.ensures ∙ ap number_of begun) _ c.committed_in-committed.result
       (c.committed_in-committed.ensures.activation ∙ ap (λ (a : Activity). number_in a.seating seat) c.in_default.ensures.kept)
       (c.committed_in-committed.ensures.steps ∙ ap (λ (a : Activity). (sitter a.seating seat).rows + 1) c.in_default.ensures.kept)
-      (ap (λ (n : Session). n.store.header) others ∙ c.commit.ensures.header ∙ ap (λ (store : KeptStore). store.header) begun)
-      (ap (λ (n : Session). n.opened) others)
-      (ap (λ (n : Session). n.closed) others)
+      (ap (λ (n : SessionState). n.store.header) others ∙ c.commit.ensures.header ∙ ap (λ (store : KeptStore). store.header) begun)
+      (ap (λ (n : SessionState). n.opened) others)
+      (ap (λ (n : SessionState). n.closed) others)
       c.enter_order.ensures.order
       (λ order. ap (λ (a : Activity). desk_over a at.now.store order) (c.swap_printed.ensures.left ∙ ap (λ (a : Activity). reprinted a seat entered.printed) shape) ∙ commits.desk order ∙ ap (λ (a : Activity). committed_at (desk_over a over.committed order) (entry_in a seat) at.now) there)
       (c.swap_printed.ensures.follows at.now.store (subst (λ (a : Activity). KeepsDesk a at.now.store) (sym shape) commits.follows))
       (c.swap_printed.ensures.out ∙ ap (λ (a : Activity). (live_in a seat).out) shape ∙ ap (λ (a : Activity). (live_in a seat).out) there ∙ out-is (activity s) seat over.committed at.now c.requires.taken at.follows at.at)
-      (ap (λ (n : Session). number_of n.store) others ∙ c.commit.ensures.number ∙ ap (λ (kept : Kept). number_after kept (number_of c.record.new.store)) c.in-Done.is ∙ ap (λ (store : KeptStore). (number_of store + 1) % 2 ^ 64) begun)
-      (subst (λ (store : KeptStore). TracksStore G store after) (sym (ap (λ (n : Session). n.store) others)) done.tracks)
+      (ap (λ (n : SessionState). number_of n.store) others ∙ c.commit.ensures.number ∙ ap (λ (kept : Kept). number_after kept (number_of c.record.new.store)) c.in-Done.is ∙ ap (λ (store : KeptStore). (number_of store + 1) % 2 ^ 64) begun)
+      (subst (λ (store : KeptStore). TracksStore G store after) (sym (ap (λ (n : SessionState). n.store) others)) done.tracks)
       done.stood (c.commit.ensures.crash tracks)
       (commit-adds c.record.new.store _ (held_of G before) (held_of G after) tracks.shows done.tracks.shows c.commit.ensures.header c.in-Done.ensures.kept (c.commit.ensures.records tracks).held)
       c.args.tally.now _ refl;
@@ -160,22 +160,22 @@ returns-in-Doubt g c = record {
       let others = c.enter_order-in-Doubt.ensures.others in
       let longer = ap length c.enter_order-in-Doubt.ensures.order ∙ length-append s.order.items (c.committed_in-committed.result ∷ []) in
       sound-closed c.args.self.now c.args.seat c.requires.sound c.requires.taken _
-      (ap (λ (n : Session). n.store.header) others ∙ c.commit.ensures.header ∙ ap (λ (store : KeptStore). store.header) c.in_default.ensures.begun)
+      (ap (λ (n : SessionState). n.store.header) others ∙ c.commit.ensures.header ∙ ap (λ (store : KeptStore). store.header) c.in_default.ensures.begun)
       (ap activity others ∙ c.in_default.ensures.kept)
-      (ap (λ (n : Session). n.begins) others)
-      (ap (λ (n : Session). n.turns) others)
+      (ap (λ (n : SessionState). n.begins) others)
+      (ap (λ (n : SessionState). n.turns) others)
       refl c.enter_order-in-Doubt.ensures.room c.requires.open (omega (arith, entered.order.ok.0, s.order.ok.0, longer));
   writes = writes-more (g.W.Outside.writes c.args.outside.now) (g.W.Outside.writes c.commit.new.outside) 0 c.commit.ensures.only.writes;
   told =
       let entered = c.enter_order-in-Doubt.new.self in
       let others = c.enter_order-in-Doubt.ensures.others in
       let there : activity entered ≡ activity c.args.self.now = ap activity others ∙ c.in_default.ensures.kept in
-      let header = ap (λ (n : Session). n.store.header) others ∙ c.commit.ensures.header ∙ ap (λ (store : KeptStore). store.header) c.in_default.ensures.begun in
+      let header = ap (λ (n : SessionState). n.store.header) others ∙ c.commit.ensures.header ∙ ap (λ (store : KeptStore). store.header) c.in_default.ensures.begun in
       record {
         others = λ i.
             let fixed : Fixed = record { programs = (there i).programs; opened = (others i).opened; header = header i; begins = (others i).begins } in
             record (session_told entered) { closed = true; fixed = fixed; given = (there i).next - 1; turns = (others i).turns };
-        printed = ap (λ (n : Session). n.printed) others;
+        printed = ap (λ (n : SessionState). n.printed) others;
         ordered = (
           _,
           order-more c.args.self.now.order.items _ c.committed_in-committed.result _ _ c.enter_order-in-Doubt.ensures.order
@@ -192,7 +192,7 @@ returns-in-Doubt g c = record {
       (record {
         only = c.commit.ensures.only;
         rose = c.in-Doubt.ensures.counted;
-        kept = subst (λ (store : KeptStore). IsKeptAfter Doubt (roomy there.bank) there.bank store.bank) (sym (ap (λ (n : Session). n.store) others)) c.in-Doubt.ensures.kept;
+        kept = subst (λ (store : KeptStore). IsKeptAfter Doubt (roomy there.bank) there.bank store.bank) (sym (ap (λ (n : SessionState). n.store) others)) c.in-Doubt.ensures.kept;
         crash = c.commit.ensures.crash;
         left = c.in-Doubt.ensures.left;
       });
