@@ -76,8 +76,7 @@ impl Unit {
 
 /// So many pages of a private segment are in the table, in frames from a first on.
 fn enter_pages(table: &mut Table, first: u16, count: u16, segment: u16)
-    requires few { first ≤ 120 }
-    requires pages { count ≤ 8 }
+    requires few { (first ≤ 120) × (count ≤ 8) }
     requires room { first + count ≤ length table.old.keys }
     requires free { (index : ℕ) → index < count → key_in table.old.keys (first + index) ≡ None }
     requires absent { (page : ℕ) → page < count → look_up table.old.keys (key_to segment page) ≡ None }
@@ -91,8 +90,7 @@ fn enter_pages(table: &mut Table, first: u16, count: u16, segment: u16)
 
 /// So many frames from a first on hold nothing, and the buffer forgets them.
 fn leave_pages(table: &mut Table, buffer: &mut Tlb, first: u16, count: u16)
-    requires few { first ≤ 120 }
-    requires pages { count ≤ 8 }
+    requires few { (first ≤ 120) × (count ≤ 8) }
     requires room { first + count ≤ length table.old.keys }
     requires of_table { IsOfTable buffer.old table.old.keys }
     ensures table { table.new ≡ with_keys table.old first (replicate count None) }

@@ -6,8 +6,10 @@ pub returns : goal.returns
 returns c =
     let after = c.remember.ensures ∙ ap (λ (o : Option ℕ). after_found c.args.self.now o (key_to c.args.segment c.args.page)) (sym c.in_ok-frame.was ∙ c.find.ensures) in
     record {
-      answer = grind (arith, common_steps); after = after; same = grind (arith, common_steps);
+      answer = grind (arith, common_steps);
+      after = after;
+      same = grind (arith, common_steps);
       kept = λ all.
-        subst (λ (list : List (List Pair)). IsOfTable list c.args.table.now.keys) (sym after)
-        (after-of c.args.self.now c.args.table.now.keys (key_to c.args.segment c.args.page) all);
+          subst (λ (list : List (List Pair)). IsOfTable list c.args.table.now.keys) (sym after)
+          (after-of c.args.self.now c.args.table.now.keys (key_to c.args.segment c.args.page) all);
     }
