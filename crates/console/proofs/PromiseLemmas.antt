@@ -127,8 +127,7 @@ module _ {W : Type 0} (G : Ghosts W) (left : Option (List ℕ)) (outside : W) wh
     ship_ends from status.PutFault can did of disk put = absurd (put refl)
     ship_ends from (status.Store offset) can did of disk put = absurd (no_fault offset can.stood (did.by_status.1 can.told))
     ship_ends from (status.NotKept base number) can did of disk put =
-        let why = did.by_status.1 can.told in
-        let keeps = can.keeps why.store why.shows in
+        let why = did.by_status.1 can.told in let keeps = can.keeps why.store why.shows in
         let all = why.behind_all in absurd (omega (arith, keeps, all))
     ship_ends from _ can did of disk put = absurd of
 
@@ -154,8 +153,7 @@ module _ {W : Type 0} (G : Ghosts W) (left : Option (List ℕ)) (outside : W) wh
       on_store held is means status.PutFault did of disk put = absurd (put refl)
       on_store held is means (status.Store offset) did of disk put = absurd (no_fault offset can.stood (did can.told))
       on_store held is means (status.Stream place kind) did of disk put =
-          let why = did.1 can.told in
-          let (alike, among, few) = can.follows held is means why.store why.shows in
+          let why = did.1 can.told in let (alike, among, few) = can.follows held is means why.store why.shows in
           absurd (⊎_elim (λ other. other.2 alike) (λ long. none_long (most_lines why.store.header) long.3.0 (due held (number_of why.store)) few long.3.2) why.due_on)
       on_store held is means (status.NotKept first last) did of disk put =
           let why = did can.told in

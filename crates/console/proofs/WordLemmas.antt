@@ -213,8 +213,7 @@ same_words one two words first second =
 -- words with a number have one
 pub same_number : (one two : Command) (words : List (List ℕ)) → SaysNumber one words → SaysNumber two words → number_said one ≡ number_said two
 same_number one two words first second =
-    let here = first.are in
-    let there = second.are in
+    let here = first.are in let there = second.are in
     let same : first.number ≡ second.number = cc in
     same_some (number_said one) (number_said two) (sym first.say ∙ ap number_of same ∙ second.say)
   where
@@ -239,8 +238,7 @@ with_long _ word store number result three is there last said some given = absur
 -- and one number from which records are shipped
 pub one_from : (words : List (String Global)) (one two : ℕ) → IsForm (command.Ship one) words → IsForm (command.Ship two) words → one ≡ two
 one_from words one two first second =
-    let here = first.says.are in
-    let there = second.says.are in
+    let here = first.says.are in let there = second.says.are in
     let same : first.says.number ≡ second.says.number = cc in
     sym first.says.say.value ∙ ap (digits_value 10) same ∙ second.says.say.value
 

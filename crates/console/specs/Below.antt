@@ -1,6 +1,6 @@
 -- The words of other crates that this crate's definitions and contracts speak with, each from its own place. Declares nothing.
 pub use Rattle.std.specs.declared.alloc.Global.{Global}
-pub use Rattle.call_status.specs.Call.{Call, call, Given, given}
+pub use Rattle.call_status.specs.Call.{Call, Given, given}
 pub use Rattle.call_status.specs.Faults.{ReadFaultsBy, RoomReads}
 pub use Rattle.call_status.specs.Reading.{IsSomeJob, ReadsBy}
 pub use Rattle.call_status.specs.Statuses.{IsOfLines}

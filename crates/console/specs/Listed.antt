@@ -1,12 +1,13 @@
 -- What a listing of a job's programs did.
 use Rattle.std.specs.Prelude.{◌≡◌, ℕ, List, [], Ok}
 use Rattle.std.specs.List.{flat_map, zip, sum_by}
-use Rattle.console.specs.Below.{Call, Ghosts, Given, job_of, Puts, PutsTimes, Status}
+use Rattle.console.specs.Below.{Call, Ghosts, Given, given, IsOfLines, job_of, Puts, PutsTimes, ReadsBy, RoomReads, Status}
 use Rattle.listing.specs.Listing.{listing_of, lines_in}
 use Rattle.job_text.specs.Grammar.{Content}
 use Rattle.call_status.specs.declared.status.Status.TheVariants as status
 use Rattle.call_status.specs.Printed.{put_of}
 use Rattle.call_status.specs.SourceText.{IsWhole}
+use Rattle.outside.specs.declared.source.Source as source
 
 -- the listings of a job's programs, each with its name, in the job's order
 abbrev pub listings_of : Content → List ℕ
@@ -39,3 +40,8 @@ ListedBy G given call _ = ⊥
 pub record Listed {W : Type 0} (G : Ghosts W) (given : Given) (call : Call W) : Type 0 where
   pub no_order : call.order ≡ []
   pub by_status : ListedBy G given call call.status
+
+-- what a listing of a source's job did, and what its text tells of the status
+pub record ListsFrom {S W : Type 0} (F : source.Ghosts S) (G : Ghosts W) (old new : S) (before after : W) (status : Status) : Type 0 where
+  pub read : ReadsBy (given F old new) status
+  pub ends : RoomReads F G (Listed G) IsOfLines old new before after status

@@ -1,7 +1,7 @@
 // The listing of a job's programs.
 ghost use Rattle.std.specs.Prelude.{◌≡◌, length};
-ghost use Rattle.console.specs.Below.{content_of, given, IsOfLines, Puts, PutsTimes, ReadsBy, RoomReads};
-ghost use Rattle.console.specs.Listed.{Listed, listings_of, lines_listed};
+ghost use Rattle.console.specs.Below.{content_of, Puts, PutsTimes};
+ghost use Rattle.console.specs.Listed.{ListsFrom, listings_of, lines_listed};
 
 use call_status::{Status, job_from};
 use job_text::Job;
@@ -11,9 +11,7 @@ use std::alloc::Global;
 
 /// Lists the programs of a source's job, in its order.
 pub fn list_source<S: Source, W: Outside>(alloc: Global, source: &mut S, outside: &mut W) -> Status
-    ensures read { ReadsBy (given S.Source source.old source.new) result }
-    ensures ends { RoomReads S.Source W.Outside (Listed W.Outside) IsOfLines
-        source.old source.new outside.old outside.new result }
+    ensures { ListsFrom S.Source W.Outside source.old source.new outside.old outside.new result }
 {
     match job_from(alloc, source) {
         Err(status) => status,

@@ -44,8 +44,7 @@ at_feed printed line index within is =
 pub at_other : (printed : List ℕ) (start index : ℕ) → start ≤ index → index < length printed → get_or printed index 0 ≢ 10
     → commits_behind (take (index - start) (drop start printed)) (drop index printed) ≡ commits_behind (take (index + 1 - start) (drop start printed)) (drop (index + 1) printed)
 at_other printed start index before within other =
-    let line = take (index - start) (drop start printed) in
-    let byte = get_or printed index 0 in
+    let line = take (index - start) (drop start printed) in let byte = get_or printed index 0 in
     let rest = drop (index + 1) printed in
     ap (commits_behind line) (split_at printed index within)
     ∙ ap (λ (feed : Bool). count_by is_commits (if feed then line ∷ whole_lines [] rest else whole_lines (line ++ byte ∷ []) rest)) (same_byte byte other)
@@ -60,8 +59,7 @@ pub record IsCounted (printed : List ℕ) (start index count : ℕ) : Type 0 whe
 pub counted_feed : (printed : List ℕ) (start index count next_start next : ℕ) (is : Bool) → IsCounted printed start index count → index < length printed → get_or printed index 0 ≡ 10
     → is ≡ is_commits (take (index - start) (drop start printed)) → next ≡ count + cond is 1 0 → next_start ≡ index + 1 → IsCounted printed next_start (index + 1) next
 counted_feed printed start index count next_start next is so within feed tells more begins =
-    let line = take (index - start) (drop start printed) in
-    let step = at_feed printed line index within feed in
+    let line = take (index - start) (drop start printed) in let step = at_feed printed line index within feed in
     let told : cond {A = ℕ} is 1 0 ≡ cond {A = ℕ} (is_commits line) 1 0 = ap (λ (b : Bool). cond {A = ℕ} b 1 0) tells in
     let small : cond {A = ℕ} is 1 0 ≤ 1 = one_at_most is in
     let place : commits_behind (take (index + 1 - (index + 1)) (drop (index + 1) printed)) (drop (index + 1) printed) ≡ commits_behind (take (index + 1 - next_start) (drop next_start printed)) (drop (index + 1) printed) =

@@ -90,8 +90,7 @@ module _ {W : Type 0} (G : Ghosts W) (job : Job) (number : ℕ) (store : FlatSto
   ran-left : (status : Status) → AreNames (names_of job) → (seen : List ℕ) → commits_seen seen ≤ length order → JobHasRun G job number store (call before after order status) session → G.printed before ≡ Some [] → G.printed after ≡ Some seen → (status ≡ Status.PutFault → ⊥)
       → IsStoppedRun (names_of job) job.programs.items job.events.items number (job_desk job (held_of G before) store) order (commits_seen seen) × (status ≡ Status.Done → commits_seen seen ≡ length order)
   ran-left status are seen few ran nothing prints unfailed =
-      let start = job_desk job (held_of G before) store in
-      let end = run job.programs.items ran.ran.taken start in
+      let start = job_desk job (held_of G before) store in let end = run job.programs.items ran.ran.taken start in
       let lines = event_lines (names_of job) job.programs.items number ran.ran.taken start in
       let closing = closing_lines number ran.ran.rest end in
       let text = report (names_of job) job.programs.items number ran.ran.taken ran.ran.rest start in

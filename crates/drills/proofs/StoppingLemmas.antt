@@ -115,8 +115,7 @@ module _ (plan : Plan) (first held : List ℕ) (writes faults : ℕ) (starved : 
 
       stops-now : is_last plan.fuse (plan.tries + 1) ≡ true → KeepsTo done first (left (fate_of plan at to)) writes (min (faults + 1) (2 ^ 64 - 1)) starved
       stops-now last =
-          let fate = fate-cut last in
-          let number = last-is plan.fuse (plan.tries + 1) last in
+          let fate = fate-cut last in let number = last-is plan.fuse (plan.tries + 1) last in
           let before : plan.tries ≡ number_of plan.fuse - 1 = omega (arith, number) in
           once-stopped (ap stops fate)
           (subst (λ (fate : Fate). ∥ WereStopped first (number_of plan.fuse) (outcome_of plan.fuse) (left fate) ∥₁) (sym fate)
@@ -135,8 +134,7 @@ module _ (plan : Plan) (first held : List ℕ) (writes faults : ℕ) (starved : 
 
       goes-on : is_last plan.fuse (plan.tries + 1) ≡ false → KeepsTo done first (left (fate_of plan at to)) (writes + 1) faults starved
       goes-on last =
-          let fate = fate-whole last in
-          let other = not-last plan.fuse (plan.tries + 1) is.fused last in
+          let fate = fate-whole last in let other = not-last plan.fuse (plan.tries + 1) is.fused last in
           let below = is.few on in
           let few : plan.tries + 1 < number_of plan.fuse = omega (arith, other, below) in
           let small = is.small in
@@ -239,7 +237,6 @@ module _ (disk : MemoryDisk) (is : IsStopping disk) (unstarved : is_disk_starved
   unfailed-runs none = elim (cases_Bool (disk_plan disk).stopped) [
     | inl off ↦ absurd (let some = is.failed off in omega (arith, some, none))
     | inr on ↦
-        let few = is.few on in
-        let counted = is.counted on in
+        let few = is.few on in let counted = is.counted on in
         (omega (arith, few, counted), subst (λ (n : ℕ). ∥ WereWritten (disk_first disk) n (disk_held disk) ∥₁) (sym counted) (is.whole on))
   ]

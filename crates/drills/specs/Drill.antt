@@ -1,5 +1,5 @@
 -- What a job leaves on a disk that stops at one of its writes.
-use Rattle.std.specs.Prelude.{◌≢◌, ◌≡◌, ◌⊎◌, ℕ, ◌+◌, ◌*◌, ◌%◌, ◌^◌, ◌<◌, ◌≤◌, true, false, List, [], length, map, take, count_by, Some}
+use Rattle.std.specs.Prelude.{◌≢◌, ◌≡◌, ◌⊎◌, ℕ, ◌+◌, ◌*◌, ◌%◌, ◌^◌, ◌<◌, ◌≤◌, true, false, List, [], length, map, take, count_by, IfOk, Result, Some}
 use Rattle.drills.specs.Below.{Call, call, commits_seen, disk_faults, disk_first, disk_held, disk_plan, disk_writes, FlatStore, Ghosts, Job, job_desk, MemoryDisk, names_of, order_told, outcome_of, Rose, Stands, stands, StandsAt, Status}
 use Rattle.outside.specs.declared.memory_screen.MemoryScreen.{MemoryScreen}
 use Rattle.outside.specs.MemoryScreen.{screen_printed}
@@ -75,8 +75,13 @@ pub record IsStop (job : Job) (held : List ℕ) (number : ℕ) (store : FlatStor
 abbrev pub OfStanding : (image : List ℕ) → (ℕ → FlatStore → Type 0) → Type 0
 OfStanding image P = (number : ℕ) (store : FlatStore) → stands image ≡ Stands number store → P number store
 
--- A copy of a job was run: what it left of the store on which every image stands; where the disk began stays, and a failed one is told only where its count rose.
+-- A copy of a job was run: what it left of a store on which every image stands; where the disk began stays, and it failed only where its count rose.
 pub record HasRunCopy {W : Type 0} (G : Ghosts W) (job : Job) (before after : W) (ended : Ended) : Type 0 where
   pub left : (number : ℕ) (store : FlatStore) → StandsAt G before number store → IsLeft G job number store (call before after (order_told ended.order.items) ended.status)
   pub origin : (G.moment after).origin ≡ (G.moment before).origin
   pub disk : ended.status ≡ Status.DiskFault → Rose (G.disk_faults before) (G.disk_faults after)
+
+-- a drill of one write stopped so, and reached it where the run has so many writes
+pub record DrillsStop {E : Type 0} (job : Job) (image : List ℕ) (write : ℕ) (outcome : List ℕ) (result : Result Stop E) : Type 0 where
+  pub stop : OfStanding image (λ number store. IfOk result (IsStop job image number store write outcome))
+  pub reached : OfStanding image (λ number store. write ≤ 2 * length (fine_order job image store) → IfOk result (λ stop. stop.reached ≡ true))

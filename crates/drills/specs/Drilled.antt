@@ -1,6 +1,6 @@
 -- What a drill did: a job was stopped at its writes in turn, each time on a store of its own.
-use Rattle.std.specs.Prelude.{◌≡◌, ℕ, ◌+◌, ◌*◌, ◌<◌, ◌≤◌, min, ◌⊎◌, List, [], ◌∷◌, ◌++◌, codes, decimal, length, get_or, replicate, true, false, Result, Ok, Err}
-use Rattle.drills.specs.Below.{Call, FlatStore, Ghosts, Given, Job, Puts, PutsTimes, Status}
+use Rattle.std.specs.Prelude.{◌≡◌, ℕ, ◌+◌, ◌*◌, ◌<◌, ◌≤◌, min, ◌⊎◌, List, [], ◌∷◌, ◌++◌, codes, decimal, length, get_or, replicate, true, false, MatchOption, Option, Result, Ok, Err}
+use Rattle.drills.specs.Below.{Call, FlatStore, Ghosts, Given, given, Job, Puts, PutsTimes, Status}
 use Rattle.outside.specs.declared.failed.Failed.{Failed}
 use Rattle.lines.specs.Directory.{byte_count}
 use Rattle.store_format.specs.Header.{fresh}
@@ -11,7 +11,11 @@ use Rattle.call_status.specs.declared.status.Status.TheVariants as status
 use Rattle.drills.specs.Drill.{IsStop, fine_order}
 use Rattle.drills.specs.declared.stops.Stop.{Stop}
 use Rattle.store_calls.specs.TryStore.{try_layout}
+use Rattle.call_status.specs.Faults.{RoomReads}
+use Rattle.call_status.specs.Reading.{ReadsBy}
 use Rattle.call_status.specs.SourceText.{IsWhole}
+use Rattle.call_status.specs.Statuses.{IsOfLines}
+use Rattle.outside.specs.declared.source.Source as source
 
 -- the line of a stop at the write with this number, at which so much was left
 abbrev pub stop_line : (write : ℕ) → (left : List ℕ) → Found → List ℕ
@@ -127,3 +131,12 @@ DrilledBy G given before after _ = ⊥
 pub record Drilled {W : Type 0} (G : Ghosts W) (given : Given) (call : Call W) : Type 0 where
   pub no_order : call.order ≡ []
   pub by_status : DrilledBy G given call.before call.after call.status
+
+-- what a drill of a source's job did, and what its text tells of the status
+pub record DrillsFrom {S W : Type 0} (F : source.Ghosts S) (G : Ghosts W) (old new : S) (before after : W) (status : Status) : Type 0 where
+  pub read : ReadsBy (given F old new) status
+  pub ends : RoomReads F G (Drilled G) IsOfLines old new before after status
+
+-- a write at which a run was found, or that it ends before that write
+abbrev pub FoundAt : Job → (write : ℕ) → (outcome : List ℕ) → Option Found → Type 0
+FoundAt job write outcome found = MatchOption found (EndsBefore job write) (IsFound job write outcome)

@@ -1,11 +1,8 @@
 // A drill: a job that is stopped at its writes in turn.
 ghost use Rattle.std.specs.Prelude.{◌≡◌, ◌⊎◌, ◌≤◌, length, MatchOption, IfOk};
-ghost use Rattle.drills.specs.Below.{given, IsReady, IsStanding, Puts, PutsTimes};
+ghost use Rattle.drills.specs.Below.{IsReady, IsStanding, Puts, PutsTimes};
 ghost use Rattle.drills.specs.Drill.{OfStanding};
-ghost use Rattle.drills.specs.Drilled.{Drilled, DrilledTo, EndsBefore, IsFound, IsPair, PutsStops, try_order, stop_line, pair_lines, last_line};
-ghost use Rattle.call_status.specs.Reading.{ReadsBy};
-ghost use Rattle.call_status.specs.Statuses.{IsOfLines};
-ghost use Rattle.call_status.specs.Faults.{RoomReads};
+ghost use Rattle.drills.specs.Drilled.{DrilledTo, DrillsFrom, EndsBefore, FoundAt, IsPair, PutsStops, try_order, stop_line, pair_lines, last_line};
 
 use super::stops::drill_stop;
 use call_status::{Status, job_from};
@@ -39,9 +36,7 @@ pub struct Pair {
 /// Stops the job of a source at its writes in turn, up to the 256th, each time on a store of `try` in memory of its own, and puts a line
 /// for each stop and one for the run that isn't stopped (docs/FORMATS.md, "Drill"). The disk that is handed in isn't called.
 pub fn drill_source<S: Source, W: Outside>(alloc: Global, source: &mut S, outside: &mut W) -> Status
-    ensures read { ReadsBy (given S.Source source.old source.new) result }
-    ensures ends { RoomReads S.Source W.Outside (Drilled W.Outside) IsOfLines
-        source.old source.new outside.old outside.new result }
+    ensures { DrillsFrom S.Source W.Outside source.old source.new outside.old outside.new result }
 {
     match job_from(alloc, source) {
         Err(status) => status,
@@ -117,7 +112,7 @@ fn found_at(
 ) -> Result<Option<Found>, AllocError>
     requires ready { IsReady job.now }
     requires write { 1 ≤ write }
-    ensures { IfOk result (λ found. MatchOption found (EndsBefore job.now write) (IsFound job.now write outcome.items)) }
+    ensures { IfOk result (FoundAt job.now write outcome.items) }
 {
     let stop = drill_stop(alloc, job, try_store(alloc)?, write, outcome)?;
     if stop.reached {

@@ -1,7 +1,7 @@
 // A job that runs on a disk in memory until the disk stops.
-ghost use Rattle.std.specs.Prelude.{◌≡◌, ◌*◌, ◌≤◌, true, length, IfOk};
+ghost use Rattle.std.specs.Prelude.{◌≡◌, ◌*◌, ◌≤◌, IfOk};
 ghost use Rattle.drills.specs.Below.{commits_seen, IsReady, IsStanding};
-ghost use Rattle.drills.specs.Drill.{HasRunCopy, IsStop, IsTold, OfStanding, fine_order};
+ghost use Rattle.drills.specs.Drill.{DrillsStop, HasRunCopy, IsTold};
 ghost use Rattle.drills.specs.Stopping.{IsStopping};
 
 use super::job_copy::copy_of;
@@ -42,10 +42,7 @@ pub fn drill_stop(
     requires ready { IsReady job.now }
     requires write { 1 ≤ write }
     requires stands { IsStanding image.items }
-    ensures stop { OfStanding image.items (λ number store. IfOk result
-        (IsStop job.now image.items number store write outcome.items)) }
-    ensures reached { OfStanding image.items (λ number store.
-        write ≤ 2 * length (fine_order job.now image.items store) → IfOk result (λ stop. stop.reached ≡ true)) }
+    ensures { DrillsStop job.now image.items write outcome.items result }
 {
     let disk = StoppingDisk::new(alloc, image, write, outcome);
     let mut outside = Joint::new(disk, MemoryScreen::new(alloc, Vec::new(alloc)));

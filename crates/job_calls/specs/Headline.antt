@@ -184,7 +184,7 @@ Happened G given call session = DidOn G (RanJob G given call session) (PutJob G 
 abbrev pub HappenedTo : {W : Type 0} → Ghosts W → Job → Call W → Option SessionState → Type 0
 HappenedTo G job call session = DidOn G (HasRunFrom G job call session) (TellsJob G job call) call session
 
--- A call ran a job that is given, as it ended: what the bytes tell of its status, what it did, the programs of the session that is handed on, and that.
+-- A call ran a job that is given, as it ended: what the bytes tell of its status, what it did, and the session that is handed on.
 pub record HasRunJob {W : Type 0} (G : Ghosts W) (job : Job) (before after : W) (ended : Ended) : Type 0 where
   pub opened : OpensBy G before after ended.status ended.session
   pub happened : HappenedTo G job (ended_call before after ended) ended.session

@@ -110,8 +110,7 @@ module _ {D W : Type 0} (S : desk.Ghosts D) (G : Ghosts W) (laws : Laws S G) (na
     tail_put : {T U : Type 0} (front rest : List Event) (start : Desk) (new : D) (between middle after : W) (value : T) (later : Result U Failed) → (S.told new).fixed.opened ≡ number → (S.told new).closed ≡ false → rest ≡ [] → (ran : Ran S G (opening names programs number start) front new (span between middle) (Ok value))
         → ((held : List ℕ) (desk : Desk) → S.shows new held desk → Puts G (closing_lines number [] desk) middle after later) → Tail start ran.taken rest between after later
     tail_put front rest start new between middle after value later opened still none ran closing =
-        let last = run programs ran.taken start in
-        let put = text_of (opening names programs number start) ran.taken in
+        let last = run programs ran.taken start in let put = text_of (opening names programs number start) ran.taken in
         let ends : List ℕ = flat_map line_text (closing_lines number [] last) in
         let kept = ran.to.still (sym ran.to.closes ∙ still) in
         let puts : Puts G (closing_lines number [] last) middle after later = closing (held_of G middle) last kept.1 in
@@ -201,8 +200,7 @@ module _ {D W : Type 0} (S : desk.Ghosts D) (G : Ghosts W) (laws : Laws S G) (na
           → (S.told new).fixed.opened ≡ number → (S.told new).closed ≡ false → rest ≡ [] → ((held : List ℕ) (desk : Desk) → S.shows new held desk → Puts G (closing_lines number [] desk) middle after later)
           → IfOk later (λ going. (S.told new).closed ≡ is_closed going) → IfOk later (λ going. is_closed going ≡ false → rest ≡ []) → Reports S G (opening names programs number start) events new (span before after) is_closed later
       reports_closing events front rest new middle after value result later opened puts whole ran opened_new was_open none closing closed all =
-          let last = run programs ran.taken start in
-          let kept = ran.to.still (sym ran.to.closes ∙ was_open) in
+          let last = run programs ran.taken start in let kept = ran.to.still (sym ran.to.closes ∙ was_open) in
           let ends : Puts G (closing_lines number [] last) middle after later = closing (held_of G middle) last kept.1 in
           reports_of events front rest new middle after value (Ok result) later opened puts whole ran (tail_put front rest start new between middle after result later opened_new was_open none ran closing)
           (λ sure. (sure_puts S G laws.later laws.printed (closing_lines number [] last) middle after later ends sure).0)

@@ -123,7 +123,7 @@ pub record RunsQuietly {D W : Type 0} (S : desk.Ghosts D) (G : Ghosts W) (openin
   pub all : is_shut quiet ≡ false → rest ≡ []
 
 module _ {D W : Type 0} (S : desk.Ghosts D) (G : Ghosts W) (old new : D) (before after : W) where
-  -- What running events quietly did. From bytes that are sure, over which a desk is shown: what was run, its counts, and what a crash left at any moment.
+  -- What running events quietly did. From sure bytes over which a desk is shown: what was run, its counts, and what a crash left at any moment.
   pub record HasRunQuietly (events : List Event) (last : List ℕ) (quiet : Quiet) : Type 0 where
     pub runs : (start : Desk) → IsSure G before → S.shows old (held_of G before) start → RunsQuietly S G (opening_of [] (S.told old).fixed start) events new (span before after) last quiet
     pub goes : GoesBy S G old new before after (going_of quiet)

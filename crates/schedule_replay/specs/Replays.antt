@@ -83,8 +83,8 @@ Replays S G opening events new span (replayed.Damaged offset) = ⊥
 Replays S G opening events new span how = Reports S G opening events new span is_closed (way_of how)
 
 module _ {D W : Type 0} (S : desk.Ghosts D) (G : Ghosts W) (names : List (List ℕ)) (events : List Event) (old new : D) (before after : W) where
-  -- What putting a report did. From bytes that are sure, over which a desk is shown: what was run, that what was printed is its report, or a prefix of it after
-  -- a failed put, what a crash left at any moment, and that no damage is found. Whatever stands on the disk: what was printed are the lines of the answers.
+  -- What putting a report did. From sure bytes over which a desk is shown: what was run, that its report was printed, or a prefix after a failed put,
+  -- what a crash left at any moment, and that no damage is found. Whatever stands on the disk: what was printed are the lines of the answers.
   pub record HasReported (result : Result Going Failed) : Type 0 where
     pub tells : TellsReport G names events (S.told old).order (S.told new).order before after is_closed result
     pub reports : (start : Desk) → HasOpened S G old before start → Reports S G (opening_of names (S.told old).fixed start) events new (span before after) is_closed result

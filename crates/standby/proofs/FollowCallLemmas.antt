@@ -87,8 +87,7 @@ module _ {W : Type 0} (G : Ghosts W) (fewer_later : FewerLater G) (printed_now :
 
     pub followed_done : content.start < 2 ^ 64 → IsAmong content (number_of durable) → kept.header ≡ durable.header → kept.bank ≡ bank_behind durable.bank (due content (number_of durable)) → Goes Done → FollowsOn G content before after status.Done
     followed_done start among header_is bank_is goes = from_number status.Done (λ store at.
-        let follows = goes_from Done goes store at in
-        let number = number_of durable in
+        let follows = goes_from Done goes store at in let number = number_of durable in
         let records = due content (number_of durable) in
         record {
           crash = crash_since Done goes store at;

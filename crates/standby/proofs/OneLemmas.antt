@@ -27,8 +27,7 @@ module _ (bytes bound : ℕ) (few : bound < 2 ^ 32) where
   same_records number n m [] (b ∷ two) are those is = absurd (differ number b two n m is)
   same_records number n m (a ∷ one) [] are those is = absurd (differ number a one m n (sym is))
   same_records number n m (a ∷ one) (b ∷ two) are those is =
-      let x = records_text (next number) one ++ end_line n in
-      let y = records_text (next number) two ++ end_line m in
+      let x = records_text (next number) one ++ end_line n in let y = records_text (next number) two ++ end_line m in
       let both = sym (records_are number a one (end_line n)) ∙ is ∙ records_are number b two (end_line m) in
       let first = same_record (next number) (length a) (length b) (lines_text a ++ x) (lines_text b ++ y) (omega arith) (omega (arith, few, room_left bytes bound 0 a are.0 (omega arith))) (omega (arith, few, room_left bytes bound 0 b those.0 (omega arith))) both in
       let lines = same_lines 0 a b x y are.0 those.0 first.0 first.1 in

@@ -124,10 +124,8 @@ all_ordered held bank read k d lt =
 pub content_is : (held : List ℕ) (store : KeptStore) (shows : Shows held store) (from : ℕ) → from < 2 ^ 64 → line_count store.header.directory < 2 ^ 32
     → All (λ lines. All (HasBytes (line_bytes store.header.directory.page)) lines) (drop (behind store.bank.base from) shows.read.records) → IsContent (shipped store shows.read.records from)
 content_is held store shows from small few bytes =
-    let size = line_bytes store.header.directory.page in
-    let lines = line_count store.header.directory in
-    let passed = behind store.bank.base from in
-    let due = drop passed shows.read.records in
+    let size = line_bytes store.header.directory.page in let lines = line_count store.header.directory in
+    let passed = behind store.bank.base from in let due = drop passed shows.read.records in
     let orders = All-drop (λ (these : List RecordLine). wrong_line (length store.bank.newest) 0 these ≡ None) passed shows.read.records (all_ordered held store.bank shows.read) in
     record {
       some_bytes = omega (arith, line-some store.header.directory.page);

@@ -264,8 +264,7 @@ read_head bytes bound start some short few small = record {
   lines = feeds_more [] (head_line bytes bound start) 0 refl line;
   goes = λ behind tail. goes_by behind tail.lines tail.records tail.many tail.each tail.text_is;
   came = λ behind goes.
-      let content = goes.content in
-      let ranges = goes.is_content in
+      let content = goes.content in let ranges = goes.is_content in
       let rest = records_text content.start content.records ++ end_line (later content.start (length content.records)) in
       let is : head_line content.line_bytes content.lines content.start ++ rest ≡ head_line bytes bound start ++ behind =
       sym (append_assoc (head_line content.line_bytes content.lines content.start) (records_text content.start content.records) (end_line (later content.start (length content.records)))) ∙ goes.text_is in
@@ -306,8 +305,7 @@ bad_head text refuses =
       more = text_of some;
       before = record { content = some; is_content = record { some_bytes = omega arith; few_bytes = omega arith; few_lines = omega arith; number = omega arith; records = λ k d lt. absurd (omega (arith, lt)) }; text_is = refl };
       bad = λ first rest others at goes.
-          let content = goes.content in
-          let ranges = goes.is_content in
+          let content = goes.content in let ranges = goes.is_content in
           let line = head_is_line content.line_bytes content.lines content.start (omega (arith, ranges.few_bytes)) (omega (arith, ranges.few_lines)) ranges.number in
           let behind = records_text content.start content.records ++ end_line (later content.start (length content.records)) in
           let split : first ++ 10 ∷ others ≡ line.body ++ 10 ∷ behind = sym goes.text_is ∙ by_head content ∙ ap (λ (these : List ℕ). these ++ behind) line.is ∙ append_assoc line.body (10 ∷ []) behind in

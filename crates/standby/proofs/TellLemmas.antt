@@ -28,8 +28,7 @@ pub kept_front : (number i more : ℕ) → (rest : List ℕ) × (kept_text numbe
 kept_front number i zero = let same : i + 0 ≡ i = omega arith in ([], cc (same, append-nil (kept_text number i)))
 kept_front number i (suc more) =
     let same : i + suc more ≡ suc (i + more) = omega arith in
-    let before = kept_front number i more in
-    let line = kept_line (later number (suc (i + more))) in
+    let before = kept_front number i more in let line = kept_line (later number (suc (i + more))) in
     (before.0 ++ line, ap (kept_text number) same ∙ ap (λ (these : List ℕ). these ++ line) before.1 ∙ append_assoc (kept_text number i) before.0 line)
 
 pub told_front : (number i all : ℕ) → i ≤ all → (rest : List ℕ) × (followed_text number all ≡ kept_text number i ++ rest)
@@ -47,8 +46,7 @@ cut_more count one two = take-append-le (min count (length one)) one two (omega 
 -- and into the line of the next
 pub told_into : (number i all count : ℕ) → i < all → take (length (kept_text number i) + min count (length (kept_line (later number (suc i))))) (followed_text number all) ≡ kept_text number i ++ take count (kept_line (later number (suc i)))
 told_into number i all count lt =
-    let line = kept_line (later number (suc i)) in
-    let front = told_front number (suc i) all (omega (arith, lt)) in
+    let line = kept_line (later number (suc i)) in let front = told_front number (suc i) all (omega (arith, lt)) in
     cc (front.1, append_assoc (kept_text number i) line front.0, take-append-add (kept_text number i) (line ++ front.0) (min count (length line)), cut_more count line front.0)
 
 -- and of the next one the line stands whole where all its bytes are there

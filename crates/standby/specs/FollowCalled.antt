@@ -1,7 +1,8 @@
 -- What following a ship text did.
 use Rattle.std.specs.Prelude.{◌≡◌, ◌≢◌, ◌⊎◌, ℕ, ◌+◌, ◌≤◌, ◌<◌, List, [], length, IsSome, Result, MatchResult, OnOk, IfErr}
-use Rattle.standby.specs.Below.{Call, call, Elapses, FaultsBy, FlatStore, Ghosts, Given, held_of, IsFaultAt, IsOfOpening, IsOfStart, KeptStore, Leaves, number_of, OnlyAsks, PrintsBy, Rose, Shows, Stands, stands, Status, TellsStore}
+use Rattle.standby.specs.Below.{Call, call, Elapses, FaultsBy, FlatStore, Ghosts, Given, held_of, IsFaultAt, IsOfOpening, IsOfStart, KeptStore, Leaves, number_of, OnlyAsks, PrintsBy, RoomReads, Rose, Shows, Stands, stands, Status, TellsStore}
 use Rattle.outside.specs.Durable.{IsSure}
+use Rattle.outside.specs.declared.source.Source as source
 use Rattle.standby.specs.State.{bank_behind, AllFit, IsAmong, IsTooLong, due, state}
 use Rattle.standby.specs.Followed.{IsAlike, IsAtNumber, StopsAt, followed_text}
 use Rattle.standby.specs.Puts.{CountsPuts}
@@ -141,3 +142,7 @@ abbrev pub IsOfFollow : Status → Type 0
 IsOfFollow status.SourceFault = Unit {0}
 IsOfFollow status.TooBig = Unit {0}
 IsOfFollow other = IsOfText other
+
+-- what following the ship text of a source did
+abbrev pub FollowsFrom : {S W : Type 0} → source.Ghosts S → Ghosts W → (old new : S) → (before after : W) → Status → Type 0
+FollowsFrom F G old new before after status = RoomReads F G (FollowedFrom G) IsOfFollow old new before after status

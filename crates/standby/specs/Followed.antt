@@ -2,10 +2,11 @@
 use Rattle.std.specs.Prelude.{◌≡◌, ℕ, zero, suc, ◌+◌, ◌<◌, ◌≤◌, ◌↔◌, List, [], ◌++◌, length, take, Option, Result, Ok, Err, IfErr, OnOk, IsSome, IfSome, ◌⊎◌, map, false}
 use Rattle.standby.specs.Below.{Elapses, Failed, FlatStore, Ghosts, Header, held_of, HoldsAtLeast, IsMoreBy, KeptStore, Leaves, line_bytes, line_count, number_of, Prints, Rose, Stands, stands, TracksStore, AreTold, most_lines, RecordLine, with_begun}
 use Rattle.standby.specs.Puts.{CountsPuts, SeesPart}
-use Rattle.standby.specs.State.{laid_by, bank_begun, bank_behind, bank_with, laid, IsAmong, IsTooLong, AllFit}
-use Rattle.standby.specs.Text.{Content, ShipLine, later, end_line, kept_line, AreLines, IsPacked, record_of, next, told}
+use Rattle.standby.specs.State.{laid_by, bank_begun, bank_behind, bank_with, due, laid, IsAmong, IsTooLong, AllFit}
+use Rattle.standby.specs.Text.{Content, content_of, ShipLine, later, end_line, kept_line, AreLines, IsPacked, record_of, next, told}
 use Rattle.standby.specs.declared.following.Followed.{Followed}
 use Rattle.standby.specs.declared.following.Followed.TheVariants.{Done, Geometry, NotKept, Long, DiskFault, PutFault}
+use Rattle.standby.specs.declared.text.Ship.{Ship}
 use Rattle.standby.specs.declared.text.ShipRecord.{ShipRecord}
 
 -- the lines that tell of so many records behind a number
@@ -213,3 +214,14 @@ pub record KeepsOne {W : Type 0} (G : Ghosts W) (sent : ShipRecord) (was durable
 abbrev pub put_of : {T E : Type 0} → Result T E → Result (Unit {0}) Failed
 put_of (Ok done) = well
 put_of (Err why) = broken
+
+-- What following a ship text on a store did. A refusal leaves all as it was, and a Done the bank of the commits: a checkpoint comes only in front of
+-- a record that doesn't fit. Of a tracked store a crash leaves it at a number of the text from there on, not one before a number that was told.
+pub record FollowsShip {W : Type 0} (G : Ghosts W) (ship : Ship) (old new : KeptStore) (before after : W) (how : Followed) : Type 0 where
+  pub found : FoundOf old.header (content_of ship) (number_of old) how
+  pub refused : (how ≡ Geometry) ⊎ (how ≡ NotKept) ⊎ ((number : ℕ) × (how ≡ Long number)) → (new ≡ old) × (after ≡ before)
+  pub only : OnlyGoesOn G before after
+  pub ends : EndsBy G before after how
+  pub header : new.header ≡ old.header
+  pub kept : how ≡ Done → new.bank ≡ bank_behind old.bank (due (content_of ship) (number_of old))
+  pub follows : OfTracked G old before (λ store. Follows G (content_of ship).line_bytes (number_of old) store (due (content_of ship) (number_of old)) new before after how)

@@ -1,5 +1,5 @@
 -- What shipping records does.
-use Rattle.std.specs.Prelude.{◌≡◌, ◌<◌, ◌≤◌, ℕ, List, All, length, map, drop, take, slice_get, Some, Result, Ok, Err, IfErr, IfOk, OnErr, OnOk}
+use Rattle.std.specs.Prelude.{◌≡◌, ◌↔◌, ◌<◌, ◌≤◌, ℕ, List, All, length, map, drop, take, slice_get, Some, Result, Ok, Err, IfErr, IfOk, OnErr, OnOk}
 use Rattle.standby.specs.Below.{area_bytes, AsksAndPuts, FailsOnlyCounted, Ghosts, held_of, IsRecordAt, IsShown, IsUsable, KeptStore, line_bytes, line_count, OnlyAsks, Prints, RecordLine, Rose, total}
 use Rattle.standby.specs.Followed.{well, broken, put_of}
 use Rattle.standby.specs.Puts.{CountsPuts}
@@ -95,3 +95,12 @@ abbrev pub ShipsBy : {W : Type 0} → Ghosts W → List ℕ → W → W → Ship
 ShipsBy G bytes old new Done = Prints (G.printed old) (G.printed new) bytes well × CountsPuts G (feeds bytes) old new
 ShipsBy G bytes old new NotKept = new ≡ old
 ShipsBy G bytes old new _ = Prints (G.printed old) (G.printed new) bytes broken
+
+-- What shipping a store's records behind a number did. NotKept puts nothing; of a store that bytes show their text is printed, or a first part of it.
+pub record ShipsStore {W : Type 0} (G : Ghosts W) (store : KeptStore) (from : ℕ) (before after : W) (how : Shipped) : Type 0 where
+  pub not_kept : how ≡ NotKept ↔ (store.bank.count < behind store.bank.base from)
+  pub refused : how ≡ NotKept → after ≡ before
+  pub only : AsksAndPuts G before after
+  pub ends : EndsBy G before after how
+  pub ships : (shown : IsShown G store before) → ShipsBy G (text_of (shipped store shown.shows.read.records from)) before after how
+  pub content : how ≡ Done → (shown : IsShown G store before) → IsContent (shipped store shown.shows.read.records from)

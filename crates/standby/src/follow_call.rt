@@ -1,7 +1,7 @@
 // A ship text that a store follows.
-ghost use Rattle.standby.specs.Below.{Elapses, given, OnlyAsks, RoomReads};
+ghost use Rattle.standby.specs.Below.{Elapses, given, OnlyAsks};
 ghost use Rattle.standby.specs.Text.{IsShip, content_of};
-ghost use Rattle.standby.specs.FollowCalled.{EndsFollowing, FollowedFrom, GivesShip, IsOfFollow, IsRefusal, OnStore};
+ghost use Rattle.standby.specs.FollowCalled.{EndsFollowing, FollowsFrom, GivesShip, IsRefusal, OnStore};
 
 use super::following::{Followed, follow};
 use super::read::read_ship;
@@ -24,8 +24,7 @@ pub fn follow_source<S: Source, W: Outside>(
     source: &mut S,
     outside: &mut W,
 ) -> Status
-    ensures { RoomReads S.Source W.Outside (FollowedFrom W.Outside) IsOfFollow
-        source.old source.new outside.old outside.new result }
+    ensures { FollowsFrom S.Source W.Outside source.old source.new outside.old outside.new result }
 {
     match ship_from(alloc, source) {
         Ok(ship) => follow_text(alloc, &ship, outside),

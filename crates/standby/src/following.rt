@@ -1,8 +1,8 @@
 // The records of a ship text, committed to a store one after another.
-ghost use Rattle.std.specs.Prelude.{◌≡◌, ◌↔◌, ◌+◌, ◌≤◌, ◌<◌, ◌⊎◌, ℕ, All, length, IsTrue, IfSome, IfNone, Err, OnErr};
-ghost use Rattle.standby.specs.Below.{IsUsable, line_bytes, number_of, total};
-ghost use Rattle.standby.specs.State.{bank_behind, IsLongAt, due};
-ghost use Rattle.standby.specs.Followed.{IsAlike, OfTracked, OnlyGoesOn, EndsBy, FollowsAll, FoundOf, Follows, IsFitting, IsBegun, KeepsEach, KeepsOne, put_of};
+ghost use Rattle.std.specs.Prelude.{◌≡◌, ◌↔◌, ◌+◌, ◌≤◌, ◌<◌, All, length, IsTrue, IfSome, IfNone, Err, OnErr};
+ghost use Rattle.standby.specs.Below.{IsUsable, line_bytes, total};
+ghost use Rattle.standby.specs.State.{IsLongAt, due};
+ghost use Rattle.standby.specs.Followed.{FollowsShip, IsAlike, FollowsAll, IsFitting, IsBegun, KeepsEach, KeepsOne, put_of};
 ghost use Rattle.standby.specs.Puts.{Puts};
 ghost use Rattle.standby.specs.Text.{IsShip, content_of, record_of};
 
@@ -35,18 +35,7 @@ pub enum Followed {
 pub fn follow<W: Outside>(durable: &mut Durable, ship: &Ship, outside: &mut W) -> Followed
     requires ship { IsShip ship.now }
     requires store { IsUsable W.Outside (total durable.old.header) durable.old.bank outside.old }
-    ensures found { FoundOf durable.old.header (content_of ship.now) (number_of durable.old) result }
-    ensures refused { (result ≡ Followed.Geometry) ⊎ (result ≡ Followed.NotKept) ⊎ ((number : ℕ) × (result ≡ Followed.Long number)) → (durable.new ≡ durable.old) × (outside.new ≡ outside.old) }
-    ensures only { OnlyGoesOn W.Outside outside.old outside.new }
-    ensures ends { EndsBy W.Outside outside.old outside.new result }
-    ensures header { durable.new.header ≡ durable.old.header }
-
-    // The bank is that of the commits: a checkpoint comes only in front of a record that doesn't fit.
-    ensures kept { result ≡ Followed.Done → durable.new.bank ≡ bank_behind durable.old.bank (due (content_of ship.now) (number_of durable.old)) }
-
-    // Of a store that is tracked: whenever a crash comes, it leaves the store at a number of the text from there on, and not
-    // one before a number that was told; and how it ended, with what was printed.
-    ensures follows { OfTracked W.Outside durable.old outside.old (λ store. Follows W.Outside (content_of ship.now).line_bytes (number_of durable.old) store (due (content_of ship.now) (number_of durable.old)) durable.new outside.old outside.new result) }
+    ensures { FollowsShip W.Outside ship.now durable.old durable.new outside.old outside.new result }
 {
     if !is_alike(durable, ship) {
         return Followed::Geometry;

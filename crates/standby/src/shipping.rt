@@ -1,11 +1,11 @@
 // The records of a bank behind a number, put as a text.
-ghost use Rattle.std.specs.Prelude.{◌≡◌, ◌↔◌, ◌+◌, ◌<◌, ◌⊎◌, Err, OnErr};
-ghost use Rattle.standby.specs.Below.{AsksAndPuts, IsShown, IsUsable, line_count, record_bytes, total};
+ghost use Rattle.std.specs.Prelude.{◌≡◌, ◌+◌, ◌<◌, ◌⊎◌, Err, OnErr};
+ghost use Rattle.standby.specs.Below.{IsUsable, line_count, record_bytes, total};
 ghost use Rattle.standby.specs.Puts.{Puts};
-ghost use Rattle.standby.specs.Shipped.{EndsBy, FindsPlace, MayShip, ShipsBy, ShipsContent, ShipsLine, ShipsRecord, ShipsRecords, shipped};
+ghost use Rattle.standby.specs.Shipped.{FindsPlace, MayShip, ShipsContent, ShipsLine, ShipsRecord, ShipsRecords, ShipsStore, shipped};
 ghost use Rattle.standby.specs.State.{behind};
 ghost use Rattle.standby.specs.Followed.{put_of};
-ghost use Rattle.standby.specs.Text.{IsContent, later, text_of};
+ghost use Rattle.standby.specs.Text.{later};
 
 use super::line::{fill_end, fill_head, fill_line, fill_record};
 use outside::{Failed, Outside};
@@ -29,14 +29,7 @@ pub enum Shipped {
 /// the disk, and takes no memory.
 pub fn ship<W: Outside>(durable: &Durable, outside: &mut W, from: u64) -> Shipped
     requires store { IsUsable W.Outside (total durable.now.header) durable.now.bank outside.old }
-    ensures not_kept { result ≡ Shipped.NotKept ↔ (durable.now.bank.count < behind durable.now.bank.base from) }
-    ensures refused { result ≡ Shipped.NotKept → outside.new ≡ outside.old }
-    ensures only { AsksAndPuts W.Outside outside.old outside.new }
-    ensures ends { EndsBy W.Outside outside.old outside.new result }
-
-    // Of a store that the bytes show: at the end the text of the records behind the number is printed, or a first part of it.
-    ensures ships { (shown : IsShown W.Outside durable.now outside.old) → ShipsBy W.Outside (text_of (shipped durable.now shown.shows.read.records from)) outside.old outside.new result }
-    ensures content { result ≡ Shipped.Done → (shown : IsShown W.Outside durable.now outside.old) → IsContent (shipped durable.now shown.shows.read.records from) }
+    ensures { ShipsStore W.Outside durable.now from outside.old outside.new result }
 {
     let passed = from.wrapping_sub(durable.base());
     if passed > u64::from(durable.records()) {

@@ -31,8 +31,7 @@ widened_more segments i d below = grind (arith, nat_tests, take-suc segments i d
 pub length-widened : (segments : List (ℕ × ℕ)) (bytes : List ℕ) → length bytes ≡ sum_by (bytes_of 2048) segments → length (widened_bytes segments bytes) ≡ sum_by (bytes_of 4096) (widened_segments segments)
 length-widened [] bytes whole = refl
 length-widened (segment ∷ segments) bytes whole =
-    let own = segment.1 * 2048 in
-    let odd = segment.1 % 2 * 2048 in
+    let own = segment.1 * 2048 in let odd = segment.1 % 2 * 2048 in
     let parts : length bytes ≡ segment.1 * 2048 + sum_by (bytes_of 2048) segments = whole ∙ sum_by-cons (bytes_of 2048) segment segments in
     let rest = length-widened segments (drop own bytes) (length-drop own bytes ∙ omega (arith, parts)) in
     let pages : (segment.1 + 1) / 2 * 4096 ≡ segment.1 * 2048 + segment.1 % 2 * 2048 = omega arith in

@@ -162,8 +162,7 @@ has_pages held store shows = grind (arith, nat_tests, stands_is held store.heade
 pub in_page : (standing : Standing) (size : PageSize) → HasPages standing size → (at count : ℕ) → at % page_bytes size + count ≤ page_bytes size
     → take (at % page_bytes size + count - at % page_bytes size) (drop (at % page_bytes size) (page_in standing (at / page_bytes size))) ≡ bytes_in standing at count
 in_page (Stands number store) size has at count inside =
-    let behind = at % page_bytes size in
-    let page = at / page_bytes size in
+    let behind = at % page_bytes size in let page = at / page_bytes size in
     let less : behind + count - behind ≡ count = omega arith in
     let all : page_bytes size ≡ behind + (page_bytes size - behind) = omega (arith, inside) in
     let place : page * page_bytes size + behind ≡ at = div-add-mod' at (page_bytes size) in

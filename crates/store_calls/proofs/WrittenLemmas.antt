@@ -50,9 +50,7 @@ unnamed image long other =
 -- one that has no more than its bytes
 pub short : (image : List ℕ) → length image ≤ 8 → IsNoStore image
 short image few =
-    let head = take 128 image in
-    let first = name_field head in
-    let more = second head ∷ others head in
+    let head = take 128 image in let first = name_field head in let more = second head ∷ others head in
     ⊎_elim (λ (less : length image < 8). faulty image (length image) (cut_first (length image) first more less))
     (λ (all : 8 ≤ length image).
     ⊎_elim

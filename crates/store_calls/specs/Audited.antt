@@ -1,9 +1,10 @@
 -- What an audit did: the commits of a bundle's report were run again, and one line tells whether they leave what it says.
 use Rattle.std.specs.Prelude.{◌≡◌, ◌≢◌, ℕ, ◌⊎◌, List, [], ◌++◌, codes, decimal, length, Option}
-use Rattle.store_calls.specs.Below.{Bundle, Call, CommitLine, Ghosts, Given, IsOfLines, IsStanding, IsVerdict, Job, KeptStore, put_of, Puts, PutsTimes, report_told, Status}
+use Rattle.store_calls.specs.Below.{Bundle, Call, CommitLine, DoneIfCalm, Ghosts, Given, IsOfLines, IsStanding, IsVerdict, Job, KeptStore, put_of, Puts, PutsTimes, report_told, RoomReads, Status}
 use Rattle.serial_audit.specs.declared.auditing.Verdict.{Verdict}
 use Rattle.serial_audit.specs.declared.auditing.Verdict.TheVariants.{NotSerial, Serial}
 use Rattle.call_status.specs.declared.status.Status.TheVariants as status
+use Rattle.outside.specs.declared.source.Source as source
 use Rattle.store_calls.specs.Bundled.{HasBundle, IsBadClosing, IsNoJob, AreBundleParts, IsWrongPart, WithBundle, part_of, Keeps}
 
 -- the line of a verdict on so many commits
@@ -59,3 +60,8 @@ pub record CanAudit (left : Option (List ℕ)) : Type 0 where
 abbrev pub IsOfAudit : Status → Type 0
 IsOfAudit (status.Bundle part at) = Unit {0}
 IsOfAudit other = IsOfLines other
+
+-- what an audit of a source's bundle did, and that it ends well where it can
+pub record AuditsFrom {S W : Type 0} (F : source.Ghosts S) (G : Ghosts W) (old new : S) (before after : W) (status : Status) : Type 0 where
+  pub ends : RoomReads F G (Audited G) IsOfAudit old new before after status
+  pub complete : CanAudit (F.left old) → DoneIfCalm F G old new before after status

@@ -1,5 +1,5 @@
 -- A store of version 2 with what a store of version 1 has.
-use Rattle.std.specs.Prelude.{◌≡◌, ◌≢◌, ◌⊎◌, ℕ, ◌+◌, ◌*◌, ◌/◌, ◌%◌, ◌^◌, ◌<◌, nat_eq, if◌then◌else◌, Bool, List, [], ◌∷◌, ◌++◌, codes, decimal, length, map, sum_by, take, drop, replicate}
+use Rattle.std.specs.Prelude.{◌≡◌, ◌≢◌, ◌⊎◌, ℕ, ◌+◌, ◌*◌, ◌/◌, ◌%◌, ◌^◌, ◌<◌, nat_eq, if◌then◌else◌, Bool, List, [], ◌∷◌, ◌++◌, codes, decimal, length, map, sum_by, take, drop, replicate, IfErr, MatchResult, OnOk, Result}
 use Rattle.store_calls.specs.Below.{bytes_of, Call, Damaged, flat_of, FlatStore, Four, front, Ghosts, Given, HasRead, Header, IsAll, KeptStore, NotAStore, OnlyAsks, Rose, Standing, Stands, stands, starts_with, Status, Two}
 use Rattle.lines.specs.Legal.{IsLegal}
 use Rattle.call_status.specs.declared.status.Status.TheVariants as status
@@ -73,6 +73,12 @@ IsNoOne given status.TooBig = HasRead given.left given.left_now 4194305
 IsNoOne given (status.Store offset) = (text : List ℕ) × IsAll 4194304 given.left given.left_now text × IsNotOne text offset
 IsNoOne given status.NoMemory = Unit {0}
 IsNoOne given _ = ⊥
+
+-- the source had one, or why it hadn't; its count of faults rises with SourceFault alone
+pub record GivesOne (given : Given) (result : Result KeptStore Status) : Type 0 where
+  pub has : MatchResult result (HasOne given) (IsNoOne given)
+  pub unfailed : OnOk result (given.faults_now ≡ given.faults)
+  pub calm : IfErr result (λ now. now ≢ status.SourceFault → given.faults_now ≡ given.faults)
 
 -- what renewing did, by the status: a source that fails, gives too much or has no store of version 1 leaves the disk alone
 abbrev pub RenewedBy : {W : Type 0} → Ghosts W → (bank : ℕ) → Given → Call W → Status → Type 0

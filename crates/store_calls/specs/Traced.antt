@@ -1,12 +1,13 @@
 -- What a trace did: the lines that an activation touched as its serial run does were put, one line for each.
 use Rattle.std.specs.Prelude.{◌≡◌, ◌≢◌, ℕ, ◌+◌, Bool, true, false, List, [], ◌++◌, codes, decimal, length, Option, Result, Ok, Err}
-use Rattle.store_calls.specs.Below.{Bundle, Call, CommitLine, flat_map, Ghosts, Given, Job, KeptStore, put_of, Puts, PutsTimes, report_told, Status}
+use Rattle.store_calls.specs.Below.{Bundle, Call, CommitLine, DoneIfCalm, flat_map, Ghosts, Given, Job, KeptStore, put_of, Puts, PutsTimes, report_told, RoomReads, Status}
 use Rattle.serial_audit.specs.declared.answer.Trace.{Trace}
 use Rattle.serial_audit.specs.declared.answer.TraceFault.{TraceFault}
 use Rattle.serial_audit.specs.declared.answer.TraceFault.TheVariants as fault
 use Rattle.serial_audit.specs.declared.touch.Touch.{Touch}
 use Rattle.serial_audit.specs.Trace.{IsAnswer}
 use Rattle.call_status.specs.declared.status.Status.TheVariants as status
+use Rattle.outside.specs.declared.source.Source as source
 use Rattle.store_calls.specs.Bundled.{HasBundle, IsNoJob, AreBundleParts, IsWrongPart, WithBundle}
 use Rattle.store_calls.specs.Audited.{IsOfAudit}
 
@@ -84,3 +85,8 @@ abbrev pub IsOfTrace : Status → Type 0
 IsOfTrace status.NoCommit = Unit {0}
 IsOfTrace (status.NotSerial place) = Unit {0}
 IsOfTrace other = IsOfAudit other
+
+-- what a trace of an activation in a source's bundle did, and that it ends well where it can
+pub record TracesFrom {S W : Type 0} (F : source.Ghosts S) (G : Ghosts W) (activation : ℕ) (old new : S) (before after : W) (status : Status) : Type 0 where
+  pub ends : RoomReads F G (TracedFrom G activation) IsOfTrace old new before after status
+  pub complete : CanTrace activation (F.left old) → DoneIfCalm F G old new before after status

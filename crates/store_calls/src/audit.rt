@@ -1,8 +1,7 @@
 // The audit of a finished run.
 ghost use Rattle.std.specs.Prelude.{◌≡◌, ◌≤◌, ◌<◌, ℕ, length, MatchResult};
-ghost use Rattle.store_calls.specs.Below.{DoneIfCalm, RoomReads};
 ghost use Rattle.store_calls.specs.New.{EndsAs, PutsIn};
-ghost use Rattle.store_calls.specs.Audited.{Audited, AuditedBy, CanAudit, IsChecked, IsOfAudit, IsUnchecked, verdict_line};
+ghost use Rattle.store_calls.specs.Audited.{AuditedBy, AuditsFrom, IsChecked, IsOfAudit, IsUnchecked, verdict_line};
 
 use super::bundle::{open_bundle, part, store_in};
 use call_status::{MOST_OF_BUNDLE, Status, read_text};
@@ -23,10 +22,7 @@ pub struct Audit {
 
 /// Audits the bundle of a source, and prints its verdict.
 pub fn audit_source<S: Source, W: Outside>(alloc: Global, source: &mut S, outside: &mut W) -> Status
-    ensures ends { RoomReads S.Source W.Outside (Audited W.Outside) IsOfAudit
-        source.old source.new outside.old outside.new result }
-    ensures complete { CanAudit (S.left source.old)
-        → DoneIfCalm S.Source W.Outside source.old source.new outside.old outside.new result }
+    ensures { AuditsFrom S.Source W.Outside source.old source.new outside.old outside.new result }
 {
     match read_text(alloc, source, MOST_OF_BUNDLE) {
         Ok(text) => audit_text(alloc, &text, outside),

@@ -1,7 +1,7 @@
 // A store of version 1 that is made one of version 2.
-ghost use Rattle.std.specs.Prelude.{◌≡◌, ◌≢◌, ◌≤◌, ◌++◌, [], length, sum_by, IfOk, IfErr, MatchResult, OnOk};
+ghost use Rattle.std.specs.Prelude.{◌≡◌, ◌≤◌, ◌++◌, [], length, sum_by, IfOk, OnOk};
 ghost use Rattle.store_calls.specs.Below.{bytes_of, flat_of, given, RoomReads, Two};
-ghost use Rattle.store_calls.specs.Renewed.{HasOne, IsNoOne, IsOfRenew, Renewed, renew_line, renewed_image, widened_bytes, widened_segments};
+ghost use Rattle.store_calls.specs.Renewed.{GivesOne, IsOfRenew, Renewed, renew_line, renewed_image, widened_bytes, widened_segments};
 
 use super::kept::{KeptFault, kept_image};
 use super::written::{ask_empty, write_store};
@@ -48,9 +48,7 @@ pub fn renew_store<S: Source, W: Outside>(
 
 /// The store of version 1 that a source has.
 fn old_store<S: Source>(alloc: Global, source: &mut S) -> Result<KeptStore, Status>
-    ensures has { MatchResult result (HasOne (given S.Source source.old source.new)) (IsNoOne (given S.Source source.old source.new)) }
-    ensures unfailed { OnOk result (S.faults source.new ≡ S.faults source.old) }
-    ensures calm { IfErr result (λ status. status ≢ Status.SourceFault → S.faults source.new ≡ S.faults source.old) }
+    ensures { GivesOne (given S.Source source.old source.new) result }
 {
     let text = read_text(alloc, source, MOST_OF_STORE)?;
     if text.starts_with(b"801STORE\x00\x02") {

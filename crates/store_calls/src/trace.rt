@@ -1,8 +1,8 @@
 // The trace of an activation in a finished run.
 ghost use Rattle.std.specs.Prelude.{◌≡◌, ◌+◌, ◌≤◌, length, MatchResult};
-ghost use Rattle.store_calls.specs.Below.{DoneIfCalm, flat_map, RoomReads};
+ghost use Rattle.store_calls.specs.Below.{flat_map};
 ghost use Rattle.store_calls.specs.New.{EndsAs, PutsIn};
-ghost use Rattle.store_calls.specs.Traced.{CanTrace, IsOfTrace, IsTraced, IsUntraced, TracedBy, TracedFrom, status_of_trace, steps_line, touch_line, trace_lines};
+ghost use Rattle.store_calls.specs.Traced.{IsOfTrace, IsTraced, IsUntraced, TracedBy, TracesFrom, status_of_trace, steps_line, touch_line, trace_lines};
 
 use super::bundle::open_bundle;
 use call_status::{MOST_OF_BUNDLE, Status, read_text};
@@ -18,10 +18,8 @@ pub fn trace_source<S: Source, W: Outside>(
     activation: u32,
     outside: &mut W,
 ) -> Status
-    ensures ends { RoomReads S.Source W.Outside (TracedFrom W.Outside activation) IsOfTrace
+    ensures { TracesFrom S.Source W.Outside activation
         source.old source.new outside.old outside.new result }
-    ensures complete { CanTrace activation (S.left source.old)
-        → DoneIfCalm S.Source W.Outside source.old source.new outside.old outside.new result }
 {
     match read_text(alloc, source, MOST_OF_BUNDLE) {
         Ok(text) => trace_text(alloc, &text, activation, outside),

@@ -44,8 +44,7 @@ module _ (s : SessionState) (new : Activity) (program : ℕ) (args : List ℕ) (
       → (held : List ℕ) (desk : Desk) → ShowsDesk s held desk
       → (next : Desk) × (step (activity s).programs (event.Begin program args) Fine desk ≡ record { desk = next; happening = begun_told program answer }) × ShowsDesk (with_activations s new) held next
   shown-begun now answer begin held desk shown =
-      let over = shown.over in
-      let goes = begin over.committed over.follows in
+      let over = shown.over in let goes = begin over.committed over.follows in
       let open_desk : session_desk s over.committed ≡ desk_over (activity s) over.committed (order_of s) = λ i. record (desk_over (activity s) over.committed (order_of s)) { closed = over.still_open i } in
       let next_desk : desk_over new over.committed (order_of s) ≡ session_desk (with_activations s new) over.committed = λ i. record (desk_over new over.committed (order_of s)) { closed = sym over.still_open i } in (
         session_desk (with_activations s new) over.committed,

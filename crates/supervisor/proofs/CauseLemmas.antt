@@ -12,8 +12,7 @@ none-next a sound none = none-free (number_in a.seating) a.seating.taken sound.s
 module _ (a : Activity) (program : ℕ) (args : List ℕ) (sound : running.IsSound a) where
   answered-by : (free absent : Option ℕ) → next_seat a.seating ≡ free → lacking a program ≡ absent → IsBeginAnswer a program (begins_by free absent a program args).0
   answered-by free absent is lacks =
-      let full = none-next a sound in
-      let few = few-taken a.seating sound.seating in
+      let full = none-next a sound in let few = few-taken a.seating sound.seating in
       let room = λ (seat : ℕ) (found : next_seat a.seating ≡ Some seat). (some-next a seat sound found).2 in
       grind (arith, full, few, room)
 

@@ -48,8 +48,7 @@ module _ (s : SessionState) (seat : ℕ) (sound : IsSound s) (taken : has (activ
   -- there were fewer commits than begins
   pub fewer-commits : s.closed ≡ false → vec_len s.order < s.begins
   fewer-commits still =
-      let places = sound.room.places still in
-      let some = fewer (activity s).seating.taken seat taken in
+      let places = sound.room.places still in let some = fewer (activity s).seating.taken seat taken in
       omega (arith, places, some, sound.room.begun)
 
   -- so the order has a place for this one
@@ -59,8 +58,7 @@ module _ (s : SessionState) (seat : ℕ) (sound : IsSound s) (taken : has (activ
   -- he has left, whether with a commit or not
   pub sound-left : (n : SessionState) (pool : Pool) (commits : ℕ) → s.closed ≡ false → HasLeft s n seat pool commits → IsSound n
   sound-left n pool commits open_before left =
-      let some = fewer-commits open_before in
-      let others = fewer (activity s).seating.taken seat taken in
+      let some = fewer-commits open_before in let others = fewer (activity s).seating.taken seat taken in
       grind (arith, sound, sound.room, left, some, others)
 
   -- it closes, and all else that runs is as before

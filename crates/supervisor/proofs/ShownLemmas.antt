@@ -35,16 +35,14 @@ isolated s held programs frames most_active most_lines store events whole two sh
     let memory = memory_after programs events (opened frames most_active most_lines store) (memory_of store) in
     let a = activity s in
     let law = (runs-are-isolated programs frames most_active most_lines store events whole two).0 in
-    let committed = shown.over.committed in
-    let kept = shown.over.follows.kept in
+    let committed = shown.over.committed in let kept = shown.over.follows.kept in
     let same_store : desk.committed ≡ store_over a committed = ap (λ (that : Desk). that.committed) shown.is in
     let same_active : desk.active ≡ entries a = ap (λ (that : Desk). that.active) shown.is in
     let same_bytes : memory.committed ≡ committed = law.committed ∙ ap (λ (that : FlatStore). that.bytes) same_store in (
       λ seat taken.
           let entry = entry_in a seat in
           let here : IsAmong desk.active entry = subst (λ (those : List Entry). IsAmong those entry) (sym same_active) (seat-told a.seating.taken (entry_in a) seat taken) in
-          let alone = law.alone entry here in
-          let stand = kept.stand seat taken in
+          let alone = law.alone entry here in let stand = kept.stand seat taken in
           let at : after entry.runs.program entry.runs.args desk.committed entry.rows ≡ Some (over_all (state_in a seat) stand.bytes) =
           subst (λ (those : FlatStore). after entry.runs.program entry.runs.args those entry.rows ≡ Some (over_all (state_in a seat) stand.bytes)) (sym same_store) stand.at in
           let both : Some (record alone.it.state { store = alone.bytes }) ≡ Some (over_all (state_in a seat) stand.bytes) = sym alone.at ∙ at in

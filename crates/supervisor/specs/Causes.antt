@@ -1,6 +1,6 @@
 -- Why the answers of a session come.
 use Rattle.std.specs.Prelude.{◌≡◌, ◌≢◌, ◌↔◌, ℕ, ◌+◌, ◌%◌, ◌<◌, ◌≤◌, ◌^◌, true, false, List, length, Option, Some, None, IsSome}
-use Rattle.supervisor.specs.Below.{absent_segment, Activity, counts_told, Desk, Ghosts, has, held_of, IfChecked, IfJournal, IfLimit, IfVictim, IfWaits, KeptStore, Leaves, most_lines, no_counts, number_in, number_of, OnlyAsks, OnlyWrites, program_at, Rose, seat_of, Tally, TracksStore, TurnEnd, with_begun}
+use Rattle.supervisor.specs.Below.{absent_segment, Activity, counts_told, Desk, Ghosts, has, HasCrashed, HasStored, HasTurned, held_of, IfChecked, IfJournal, IfLimit, IfVictim, IfWaits, KeptStore, Leaves, most_lines, no_counts, number_in, number_of, OnlyAsks, OnlyWrites, program_at, Rose, seat_of, StoredNumber, Tally, TracksStore, TurnEnd, with_begun}
 use Rattle.store_format.specs.Bank.{RecordLine}
 use Rattle.store.specs.declared.keep.Kept.{Kept}
 use Rattle.store.specs.declared.keep.Kept.TheVariants as kept
@@ -12,11 +12,13 @@ use Rattle.desk.specs.declared.answers.Begun.{Begun}
 use Rattle.desk.specs.declared.answers.Begun.TheVariants as begun
 use Rattle.desk.specs.declared.answers.Reopened.{Reopened}
 use Rattle.desk.specs.declared.answers.Reopened.TheVariants as reopened
+use Rattle.desk.specs.declared.answers.Stored.{Stored}
+use Rattle.desk.specs.declared.answers.Stored.TheVariants as stored
 use Rattle.desk.specs.declared.answers.Turn.{Turn}
 use Rattle.desk.specs.declared.answers.TurnEnd.TheVariants as end
 use Rattle.activations.specs.Recorded.{IsRecordOf}
 use Rattle.supervisor.specs.declared.session.SessionState.{SessionState}
-use Rattle.supervisor.specs.Session.{activity, session_told, store_told}
+use Rattle.supervisor.specs.Session.{activity, number_told, records_told, session_told, store_told}
 use Rattle.supervisor.specs.Shown.{ShowsDesk}
 
 -- sixteen are active
@@ -77,10 +79,6 @@ abbrev pub ReopenedNumber : Reopened → (number : ℕ) → Type 0
 ReopenedNumber (reopened.Number told) number = told ≡ number
 ReopenedNumber _ number = Unit {0}
 
--- bytes over which a session shows a desk aren't found damaged
-abbrev pub NeverDamaged : {W : Type 0} → Ghosts W → SessionState → W → Reopened → Type 0
-NeverDamaged G s outside answer = (desk : Desk) (offset : ℕ) → IsSome (G.held outside) → ShowsDesk s (held_of G outside) desk → answer ≢ reopened.Damaged offset
-
 -- What `Durable::commit` promises of a store with a begun record where it answers so, Unwritten or Doubt: the disk's count rose in it.
 pub record IsFailedCommit {W : Type 0} (G : Ghosts W) (answer : Kept) (old new : KeptStore) (before after : W) : Type 0 where
   pub only : OnlyWrites G before after
@@ -115,6 +113,20 @@ LeavesStore G activation (end.Closed (Some doubted) told) store new before after
 LeavesStore G activation (end.Closed None told) store new before after = ClosesInCommit G activation kept.Unwritten store new before after
 LeavesStore G activation _ store new before after = store_told new ≡ store
 
--- the same of its answer
-abbrev pub TurnLeaves : {W : Type 0} → Ghosts W → (activation : ℕ) → Turn → (old new : SessionState) → W → W → Type 0
-TurnLeaves G activation answer old new before after = LeavesStore G activation answer.end (store_told old) new before after
+-- What a turn asked of a session did: what one of a supervisor does, what it leaves of the store, and why its answer comes.
+pub record SessionTurn {W : Type 0} (G : Ghosts W) (activation limit : ℕ) (old new : SessionState) (before after : W) (how : Turn) : Type 0 where
+  pub turned : HasTurned ShowsDesk session_told G activation limit old new before after how
+  pub stored : LeavesStore G activation how.end (store_told old) new before after
+  pub answer : IsTurnAnswer old activation limit how
+
+-- the same of a checkpoint, whose number is the store's, and behind which the chosen bank has no record
+pub record SessionCheckpoint {W : Type 0} (G : Ghosts W) (old new : SessionState) (before after : W) (answer : Stored) : Type 0 where
+  pub number : StoredNumber answer (number_told old)
+  pub emptied : (number : ℕ) → answer ≡ stored.Number number → records_told new ≡ 0
+  pub stored : HasStored ShowsDesk session_told G old new before after answer
+
+-- and of a crash: bytes over which a desk is shown aren't found damaged
+pub record SessionCrash {W : Type 0} (G : Ghosts W) (old new : SessionState) (before after : W) (answer : Reopened) : Type 0 where
+  pub crashed : HasCrashed ShowsDesk session_told G old new before after answer
+  pub number : ReopenedNumber answer (number_told new)
+  pub undamaged : (desk : Desk) (offset : ℕ) → IsSome (G.held before) → ShowsDesk old (held_of G before) desk → answer ≢ reopened.Damaged offset

@@ -28,8 +28,8 @@ pub record IsSessionOpened {W : Type 0} (G : Ghosts W) (frames : ℕ) (old new :
   pub header : header_of (take 128 (held_of G old)) ≡ header_of_session s
   pub shows : ShowsDesk s (held_of G new) (opened frames 16 (most_lines (header_of_session s)) store)
 
--- what an opening makes of a session: it is new, the bytes that are told are enough for its store and stood for one, and those of an honest disk open it
-pub record IsMadeOver {W : Type 0} (G : Ghosts W) (programs : List Program) (frames begins : ℕ) (before after : W) (s : SessionState) : Type 0 where
+-- what an opening makes of a session: it is new, the told bytes are enough for its store and stood for one, and those of an honest disk open it
+pub record MadeBy {W : Type 0} (G : Ghosts W) (programs : List Program) (frames begins : ℕ) (before after : W) (s : SessionState) : Type 0 where
   pub new : IsNew programs begins s
   pub room : HoldsStore G (header_of_session s) after
   pub opened : IsTrue (G.is_honest before) → IsSome (G.held before) → IsSessionOpened G frames before after s

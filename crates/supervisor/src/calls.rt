@@ -1,6 +1,6 @@
 // The calls of a session: what each does, and why each answer comes.
-ghost use Rattle.std.specs.Prelude.{◌≡◌, ◌≤◌, ◌<◌, ◌^◌, ℕ, length, map};
-ghost use Rattle.supervisor.specs.Below.{HasBegun, HasCrashed, HasStored, HasTurned, HoldsStore, number_after, numbers, OfShown, StoredNumber};
+ghost use Rattle.std.specs.Prelude.{◌≡◌, ◌≤◌, ◌<◌, ◌^◌, length, map};
+ghost use Rattle.supervisor.specs.Below.{HasBegun, HoldsStore, number_after, numbers, OfShown};
 ghost use Rattle.supervisor.specs.Causes.{answer_of};
 
 use super::session::Session;
@@ -24,9 +24,9 @@ fn told(tally: Tally, end: TurnEnd) -> Turn
 }
 
 impl Session {
-    ghost use Rattle.supervisor.specs.Session.{activity, order_of, records_told, fixed_of, session_told, number_told};
+    ghost use Rattle.supervisor.specs.Session.{activity, order_of, fixed_of, session_told, number_told};
     ghost use Rattle.supervisor.specs.Shown.{ShowsDesk};
-    ghost use Rattle.supervisor.specs.Causes.{AnswersBegin, IsTurnAnswer, NeverDamaged, ReopenedNumber, TurnLeaves};
+    ghost use Rattle.supervisor.specs.Causes.{AnswersBegin, SessionCheckpoint, SessionCrash, SessionTurn};
     ghost use Rattle.seats.specs.Seating.{numbers as numbers_seated};
 
     /// The program with this place begins with four values.
@@ -49,10 +49,7 @@ impl Session {
         requires limit { limit ≤ 1000000 }
         requires turns { (session_told self.old).turns < 2 ^ 32 }
         requires bytes { HoldsStore W.Outside (fixed_of self.old).header outside.old }
-        ensures turned { HasTurned ShowsDesk session_told W.Outside activation limit
-            self.old self.new outside.old outside.new result }
-        ensures answer { IsTurnAnswer self.old activation limit result }
-        ensures stored { TurnLeaves W.Outside activation result self.old self.new outside.old outside.new }
+        ensures { SessionTurn W.Outside activation limit self.old self.new outside.old outside.new result }
     {
         let mut tally = Tally::new();
         if self.state.closed {
@@ -68,10 +65,7 @@ impl Session {
     /// Brings the store home, so that its journal begins again.
     pub fn checkpoint<W: Outside>(&mut self, outside: &mut W) -> Stored
         requires bytes { HoldsStore W.Outside (fixed_of self.old).header outside.old }
-        ensures stored { HasStored ShowsDesk session_told W.Outside
-            self.old self.new outside.old outside.new result }
-        ensures number { StoredNumber result (number_told self.old) }
-        ensures emptied { (number : ℕ) → result ≡ Stored.Number number → records_told self.new ≡ 0 }
+        ensures { SessionCheckpoint W.Outside self.old self.new outside.old outside.new result }
     {
         if self.state.closed {
             return Stored::Shut;
@@ -88,10 +82,7 @@ impl Session {
     /// A crash: it forgets all that isn't on the disk, and reads the store again. It only asks the disk.
     pub fn forget<W: Outside>(&mut self, outside: &mut W) -> Reopened
         requires bytes { HoldsStore W.Outside (fixed_of self.old).header outside.old }
-        ensures crashed { HasCrashed ShowsDesk session_told W.Outside
-            self.old self.new outside.old outside.new result }
-        ensures number { ReopenedNumber result (number_told self.new) }
-        ensures undamaged { NeverDamaged W.Outside self.old outside.old result }
+        ensures { SessionCrash W.Outside self.old self.new outside.old outside.new result }
     {
         if self.state.closed {
             return Reopened::Shut;

@@ -43,7 +43,7 @@ impl Model for Session {
 }
 
 impl Session {
-    ghost use Rattle.supervisor.specs.Opened.{IsMadeOver};
+    ghost use Rattle.supervisor.specs.Opened.{MadeBy};
 
     /// A session over the store that the disk holds, with so many frames for its pages, for so many begins of these programs.
     /// It only asks the disk, and reads no home line.
@@ -65,7 +65,7 @@ impl Session {
         ensures unfailed { OnOk result (W.disk_faults outside.new ≡ W.disk_faults outside.old) }
         ensures fault { IfErr result (IsStoreOpenFault W.Outside outside.old outside.new) }
         ensures calm { IfErr result (λ fault. fault ≢ OpenFault.DiskFault → W.disk_faults outside.new ≡ W.disk_faults outside.old) }
-        ensures made { IfOk result (IsMadeOver W.Outside programs.items frames begins outside.old outside.new) }
+        ensures made { IfOk result (MadeBy W.Outside programs.items frames begins outside.old outside.new) }
     {
         let store = Durable::open(alloc, outside)?;
         let printed = Printed::new(alloc)?;

@@ -29,8 +29,7 @@ count names programs same =
 
 pub returns-in_err-put_program-clause-puts : goal.returns-in_err-put_program-clause-puts
 returns-in_err-put_program-clause-puts g c =
-    let names = c.args.job.now.names.items in
-    let programs = c.args.job.now.programs.items in
+    let names = c.args.job.now.names.items in let programs = c.args.job.now.programs.items in
     let within : c.loop-index.index < length programs = omega (arith, c.loop-index-test.true, ap (λ (these : List Program). length these) c.deref-program-items.ensures.value) in
     puts_no_more g.W.Outside g.met.W.Outside.fewer_later listing_named (named_in names programs) c.loop-index.index ([], parts_of c.program-item.result) _
     (omega (arith, within, count names programs c.requires))
@@ -52,8 +51,7 @@ loop-index-init g c = record { puts = search rules; times = λ told. omega arith
 
 pub loop-index-preserved : goal.loop-index-preserved
 loop-index-preserved g c =
-    let names = c.args.job.now.names.items in
-    let programs = c.args.job.now.programs.items in
+    let names = c.args.job.now.names.items in let programs = c.args.job.now.programs.items in
     let within : c.loop-index.index < length programs = omega (arith, c.loop-index-test.true, ap (λ (these : List Program). length these) c.deref-program-items.ensures.value) in
     let this : get_or programs c.loop-index.index c.program-item.result ≡ c.program-item.result = ap (λ (these : List Program). get_or these c.loop-index.index c.program-item.result) (sym c.deref-program-items.ensures.value) ∙ sym c.program-item.is in
     let more : sum_by lines_of (take c.loop-index.index programs) + lines_of c.program-item.result ≡ sum_by lines_of (take (c.loop-index.index + 1) programs) =
@@ -69,8 +67,7 @@ loop-index-preserved g c =
 
 pub returns-clause-puts : goal.returns-clause-puts
 returns-clause-puts g c =
-    let names = c.args.job.now.names.items in
-    let programs = c.args.job.now.programs.items in
+    let names = c.args.job.now.names.items in let programs = c.args.job.now.programs.items in
     let all : length (named_in names programs) ≤ c.loop-index.index = omega (arith, count names programs c.requires, c.loop-index-test.false, ap (λ (these : List Program). length these) c.deref-program-items.ensures.value) in
     subst (λ (these : List (List ℕ × Parts)). Puts g.W.Outside (flat_map listing_named these) c.args.outside.now c.loop-index.outside done)
     (take_all c.loop-index.index (named_in names programs) all)

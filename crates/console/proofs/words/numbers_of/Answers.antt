@@ -10,8 +10,7 @@ failed (Err fault) is given = given
 
 pub returns-then-is_err : goal.returns-then-is_err
 returns-then-is_err c = λ numbers few are.
-    let words = c.args.words.now in
-    let i = c.loop-word.word-index in
+    let words = c.args.words.now in let i = c.loop-word.word-index in
     let full : length c.loop-word.numbers.items ≡ 31 = failed c.try_push.result (sym c.is_err.ensures.value ∙ c.if-is_err.true) c.try_push.ensures.full in
     let read = as_many (map string_bytes (take i words)) c.loop-word.numbers.items c.loop-word.invariant in
     let all = as_many (map string_bytes words) numbers are in

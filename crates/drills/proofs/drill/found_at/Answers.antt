@@ -16,8 +16,7 @@ returns-in_ok-number c =
 
 pub returns-else-stop : goal.returns-else-stop
 returns-else-stop c =
-    let job = c.args.job.now in
-    let image = c.in_ok-try_store.field-0.items in
+    let job = c.args.job.now in let image = c.in_ok-try_store.field-0.items in
     let bytes = c.in_ok-try_store.ensures.bytes in (
       unreached c.in_ok-stop.stop.reached (2 * length (try_order job)) c.args.write c.if-stop.false
           (λ due. c.in_ok-stop.ensures.reached 0 try_flat (try-stands image bytes) (subst (λ (n : ℕ). c.args.write ≤ 2 * n) (ap (λ (these : List ℕ). length (fine_order job these try_flat)) (sym bytes)) due)),

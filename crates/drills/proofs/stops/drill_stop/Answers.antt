@@ -7,8 +7,7 @@ use Rattle.drills.proofs.stops.drill_stop.Goals as goal
 has-left : (c : goal.After-drop-screen-3) (number : ℕ) (store : FlatStore) → stands c.args.image.items ≡ Stands number store
     → HasLeft c.args.job.now c.args.image.items number store c.args.write c.args.outcome.items c.in_ok-ended.ended (memory_of c.run_copy.new.outside.disk) c.run_copy.new.outside.screen
 has-left c number store stood =
-    let made = memory_of c.new-disk.result in
-    let outside = c.new-outside.result in
+    let made = memory_of c.new-disk.result in let outside = c.new-outside.result in
     let after = c.run_copy.new.outside in
     let same : memory_of outside.disk ≡ made = ap memory_of c.new-outside.ensures.disk in
     let held : disk_held (memory_of outside.disk) ≡ c.args.image.items = ap disk_held same ∙ c.new-disk.ensures.held in
@@ -39,12 +38,14 @@ told-is c =
     subst (λ (disk : MemoryDisk). IfOk c.told.result (IsTold c.in_ok-ended.ended disk c.run_copy.new.outside.screen)) (c.into_memory.ensures.same ∙ ap memory_of c.into_parts-disk.ensures.disk)
     (rw c.into_parts-disk.ensures.screen at c.told.ensures)
 
-pub returns-clause-stop : goal.returns-clause-stop
-returns-clause-stop c = λ number store stood.
-    IfOk-weaker c.told.result _ (IsStop c.args.job.now c.args.image.items number store c.args.write c.args.outcome.items)
-    (stop-is c.args.job.now c.args.image.items number store c.args.write c.args.outcome.items c.in_ok-ended.ended (memory_of c.run_copy.new.outside.disk) c.run_copy.new.outside.screen (has-left c number store stood)) (told-is c)
-
-pub returns-clause-reached : goal.returns-clause-reached
-returns-clause-reached c = λ number store stood due.
-    IfOk-weaker c.told.result _ (λ stop. stop.reached ≡ true)
-    (λ stop told. is-reached c.args.job.now c.args.image.items number store c.args.write c.args.outcome.items c.in_ok-ended.ended (memory_of c.run_copy.new.outside.disk) c.run_copy.new.outside.screen (has-left c number store stood) stop told due) (told-is c)
+pub returns : goal.returns
+returns c = record {
+  stop =
+      λ number store stood.
+      IfOk-weaker c.told.result _ (IsStop c.args.job.now c.args.image.items number store c.args.write c.args.outcome.items)
+      (stop-is c.args.job.now c.args.image.items number store c.args.write c.args.outcome.items c.in_ok-ended.ended (memory_of c.run_copy.new.outside.disk) c.run_copy.new.outside.screen (has-left c number store stood)) (told-is c);
+  reached =
+      λ number store stood due.
+      IfOk-weaker c.told.result _ (λ stop. stop.reached ≡ true)
+      (λ stop told. is-reached c.args.job.now c.args.image.items number store c.args.write c.args.outcome.items c.in_ok-ended.ended (memory_of c.run_copy.new.outside.disk) c.run_copy.new.outside.screen (has-left c number store stood) stop told due) (told-is c);
+}

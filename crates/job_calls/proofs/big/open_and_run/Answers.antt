@@ -6,14 +6,9 @@ use Rattle.job_calls.proofs.big.open_and_run.Goals as goal
 pub returns : goal.returns
 returns g c = record {
   loaded =
-      let G = g.W.Outside in
-      let job = c.args.job in
-      let desk = c.in-Ok.session in
-      let new = c.run_quiet-quiet.new.desk in
-      let before = c.args.outside.now in
-      let start = c.open.new.outside in
-      let between = c.run_quiet-quiet.new.outside in
-      let last = c.as_slice.result.now in
+      let G = g.W.Outside in let job = c.args.job in let desk = c.in-Ok.session in
+      let new = c.run_quiet-quiet.new.desk in let before = c.args.outside.now in let start = c.open.new.outside in
+      let between = c.run_quiet-quiet.new.outside in let last = c.as_slice.result.now in
       let quiet = c.run_quiet-quiet.result in
       let runs : (first : Desk) → IsSure G start → ghosts.shows desk (held_of G start) first → RunsQuietly ghosts G (opening_of [] (fixed_of desk) first) job.events.items new (span start between) last quiet = λ first sure shows.
       subst (λ (bytes : List ℕ). RunsQuietly ghosts G (opening_of [] (fixed_of desk) first) job.events.items new (span start between) bytes quiet) (sym c.as_slice.ensures.value)

@@ -34,11 +34,8 @@ replays G names events job desk new start after result same_names same_events di
 pub returns : goal.returns
 returns g c = record {
   opened =
-      let G = g.W.Outside in
-      let before = c.args.outside.now in
-      let start = c.open.new.outside in
-      let after = c.replay-replayed.new.outside in
-      let result = c.replay-replayed.result in
+      let G = g.W.Outside in let before = c.args.outside.now in let start = c.open.new.outside in
+      let after = c.replay-replayed.new.outside in let result = c.replay-replayed.result in
       subst (λ (now : Status). OpensBy G before after now (Some c.replay-replayed.new.desk)) (sym c.status_of_replay.ensures)
       (opens-by G before start after c.in-Ok.session c.replay-replayed.new.desk result c.in-Ok.ensures.made.told c.replay-replayed.ensures.goes
       (λ offset is honest told.
@@ -47,14 +44,9 @@ returns g c = record {
       subst (λ (those : Replayed). Replays ghosts G (first_opening G c.args.job.frames before start c.in-Ok.session opens c.in-Ok.ensures.asks (map (λ name. name.items) c.deref.result.now)) c.deref-2.result.now c.replay-replayed.new.desk (span start after) those) is
       (replays_so ghosts G _ _ _ _ result (c.replay-replayed.ensures.reports _ has) (c.replay-replayed.ensures.undamaged _ has))));
   happened =
-      let G = g.W.Outside in
-      let job = c.args.job in
-      let desk = c.in-Ok.session in
-      let new = c.replay-replayed.new.desk in
-      let before = c.args.outside.now in
-      let start = c.open.new.outside in
-      let after = c.replay-replayed.new.outside in
-      let result = c.replay-replayed.result in
+      let G = g.W.Outside in let job = c.args.job in let desk = c.in-Ok.session in
+      let new = c.replay-replayed.new.desk in let before = c.args.outside.now in let start = c.open.new.outside in
+      let after = c.replay-replayed.new.outside in let result = c.replay-replayed.result in
       let did = replays G _ c.deref-2.result.now job desk new start after result (ap (map (λ name. name.items)) c.deref.ensures.value) c.deref-2.ensures.value
       (λ first opened. replays_so ghosts G _ _ _ _ result (c.replay-replayed.ensures.reports first opened) (c.replay-replayed.ensures.undamaged first opened)) in
       subst (λ (now : Status). HappenedTo G job (call before after (order_told c.filled.result.items) now) (Some new)) (sym c.status_of_replay.ensures)
@@ -65,13 +57,10 @@ returns g c = record {
       (subst (λ (events : List Event). TellsBy G (map (λ name. name.items) c.deref.result.now) events (order_of desk) (order_of new) start after result) c.deref-2.ensures.value c.replay-replayed.ensures.tells))));
   runs = first_of (search rules, grind (arith, common_steps));
   ends =
-      let same = sym c.status_of_replay.ensures in
-      let asks = c.in-Ok.ensures.asks.calls in
-      let replayed = c.replay-replayed in
-      let cause = replayed.ensures.answered.cause in
+      let same = sym c.status_of_replay.ensures in let asks = c.in-Ok.ensures.asks.calls in
+      let replayed = c.replay-replayed in let cause = replayed.ensures.answered.cause in
       let before = g.W.Outside.put_faults c.open.new.outside in
-      let after = g.W.Outside.put_faults replayed.new.outside in
-      let ran = c.replay-replayed.ensures.answered in
+      let after = g.W.Outside.put_faults replayed.new.outside in let ran = c.replay-replayed.ensures.answered in
       let few : length c.deref-2.result.now ≡ length c.args.job.events.items = ap (λ (these : List Event). length these) c.deref-2.ensures.value in
       record {
         handed = search rules;

@@ -6,10 +6,7 @@ use Rattle.schedule_replay.proofs.events.answer.Goals as goal
 
 pub returns-in-Begin : goal.returns-in-Begin
 returns-in-Begin g c =
-    let S = g.S.Supervisor in
-    let L = g.met.S.Supervisor in
-    let old = c.args.desk.now in
-    let w = c.args.outside.now in
+    let S = g.S.Supervisor in let L = g.met.S.Supervisor in let old = c.args.desk.now in let w = c.args.outside.now in
     let begun = c.begin-begun in
     let names = map (λ name. name.items) c.args.names.now in
     let told = begun.ensures.told in
@@ -30,10 +27,7 @@ returns-in-Turn g c = grind (arith, nat_tests)
 
 pub returns-in-Checkpoint : goal.returns-in-Checkpoint
 returns-in-Checkpoint g c =
-    let S = g.S.Supervisor in
-    let G = g.W.Outside in
-    let old = c.args.desk.now in
-    let stored = c.checkpoint-stored in
+    let S = g.S.Supervisor in let G = g.W.Outside in let old = c.args.desk.now in let stored = c.checkpoint-stored in
     let names = map (λ name. name.items) c.args.names.now in
     let told = stored.ensures.told in
     let closed = ap (λ (told : Told). told.closed) told in
@@ -47,12 +41,8 @@ returns-in-Checkpoint g c =
 
 pub returns-in-Crash : goal.returns-in-Crash
 returns-in-Crash g c =
-    let S = g.S.Supervisor in
-    let G = g.W.Outside in
-    let old = c.args.desk.now in
-    let w = c.args.outside.now in
-    let lost = c.as_slice.result.now in
-    let reopened = c.forget-reopened in
+    let S = g.S.Supervisor in let G = g.W.Outside in let old = c.args.desk.now in let w = c.args.outside.now in
+    let lost = c.as_slice.result.now in let reopened = c.forget-reopened in
     let names = map (λ name. name.items) c.args.names.now in
     let told = reopened.ensures.told in
     let after = after_other event.Crash (reopened_closes reopened.result) (S.told old) (S.told reopened.new.self) told in

@@ -5,10 +5,7 @@ use Rattle.schedule_replay.proofs.events.answer_turn.Goals as goal
 
 pub returns : goal.returns
 returns g c =
-    let S = g.S.Supervisor in
-    let G = g.W.Outside in
-    let old = c.args.desk.now in
-    let turn = c.turn-turn in
+    let S = g.S.Supervisor in let G = g.W.Outside in let old = c.args.desk.now in let turn = c.turn-turn in
     let told = turn_told c.args.activation turn.result in
     let names = map (λ name. name.items) c.args.names.now in
     let closed = ap (λ (told : Told). told.closed) turn.ensures.told.others in

@@ -23,9 +23,7 @@ returns-in_err-going g c = record {
   shut = first_of (search rules, grind (arith, common_steps));
   ran =
       λ start sure shows.
-      let now = c.loop-event.invariant in
-      let later = c.from_residual.result in
-      let broke = c.from_residual.ensures.0 in
+      let now = c.loop-event.invariant in let later = c.from_residual.result in let broke = c.from_residual.ensures.0 in
       ran_last g.S.Supervisor g.W.Outside g.met.W.Outside.fewer_later (map (λ name. name.items) c.args.names.now) (names_are (λ name. name.items) c.args.names.now c.requires.unbroken) c.args.events.now c.loop-event.event-index (Begin 0 []) c.loop-event-test.true start c.args.desk.now c.loop-event.desk c.answer.new.desk c.args.outside.now c.loop-event.outside c.answer.new.outside
       (now.still (g.met.S.Supervisor.shown_told c.args.desk.now _ start shows).still_open) now.answered.tells.fixed c.answer.result (now.ran start sure shows) c.answer.ensures.ran later (prints_broken c.answer.result later (search rules) broke) (λ is. broke) (if_ok_broken later _ broke) (if_ok_broken later _ broke) (if_ok_broken later _ broke);
 }
@@ -34,8 +32,7 @@ pub returns : goal.returns
 returns g c = record {
   tells = grind (arith, nat_tests, tells_well, take_all);
   answered =
-      let S = g.S.Supervisor in
-      let later = g.met.W.Outside.fewer_later in
+      let S = g.S.Supervisor in let later = g.met.W.Outside.fewer_later in
       answered_all S g.W.Outside later c.args.events.now c.loop-event.event-index c.args.desk.now c.loop-event.desk c.args.outside.now c.loop-event.outside (Ok going.On)
       (answered_well S g.W.Outside later _ c.args.desk.now c.loop-event.desk c.args.outside.now c.loop-event.outside 0 going.On c.loop-event.invariant.answered);
   goes = first_of (search rules, grind (arith, common_steps));
@@ -55,8 +52,7 @@ returns g c = record {
 
 pub loop-event-init : goal.loop-event-init
 loop-event-init g c =
-    let S = g.S.Supervisor in
-    let L = g.met.S.Supervisor in
+    let S = g.S.Supervisor in let L = g.met.S.Supervisor in
     record {
       tells = tells_none g.W.Outside (map (λ name. name.items) c.args.names.now) (S.told c.args.desk.now).order c.args.outside.now 0;
       answered = answered_none S g.W.Outside g.met.W.Outside.fewer_later c.args.desk.now c.args.outside.now c.requires.ready.bytes;
@@ -74,9 +70,7 @@ answer-requires g c = record {
 
 pub returns-in_default : goal.returns-in_default
 returns-in_default g c =
-    let S = g.S.Supervisor in
-    let G = g.W.Outside in
-    let now = c.loop-event.invariant in
+    let S = g.S.Supervisor in let G = g.W.Outside in let now = c.loop-event.invariant in
     let how = c.in_ok-going.going in
     record {
       tells = record {
@@ -97,9 +91,7 @@ returns-in_default g c =
 
 pub loop-event-preserved : goal.loop-event-preserved
 loop-event-preserved g c =
-    let S = g.S.Supervisor in
-    let G = g.W.Outside in
-    let now = c.loop-event.invariant in
+    let S = g.S.Supervisor in let G = g.W.Outside in let now = c.loop-event.invariant in
     let how = c.in_ok-going.going in
     record {
       tells = tells_well G (map (λ name. name.items) c.args.names.now) (take (c.loop-event.event-index + 1) c.args.events.now) (S.told c.args.desk.now).order (S.told c.answer.new.desk).order c.args.outside.now c.answer.new.outside how 0

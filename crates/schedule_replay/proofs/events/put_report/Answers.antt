@@ -41,10 +41,8 @@ returns-in_err-going g c = record {
 pub returns-in_err-put_closing-in-On : goal.returns-in_err-put_closing-in-On
 returns-in_err-put_closing-in-On g c = record {
   tells =
-      let S = g.S.Supervisor in
-      let later = c.from_residual-in_err-put_closing-in-On.result in
-      let broke = c.from_residual-in_err-put_closing-in-On.ensures.0 in
-      let some = c.in_ok-going.ensures.tells in
+      let S = g.S.Supervisor in let later = c.from_residual-in_err-put_closing-in-On.result in
+      let broke = c.from_residual-in_err-put_closing-in-On.ensures.0 in let some = c.in_ok-going.ensures.tells in
       let ends = c.put_closing.ensures.some in
       told_ended g.W.Outside (map (λ name. name.items) c.args.names.now) c.args.events.now (S.told c.args.desk.now).order (S.told c.put_events.new.desk).order c.number.result c.args.outside.now c.put_one.new.outside c.put_events.new.outside c.in_ok-put_one.field-0 c.in_ok-put_one.ensures is_closed c.in_ok-going.going later c.put_closing.new.outside some.count _
       (some.all (ap is_closed c.in-On.is)) (ends.0, ends.1, refl) some.tells
@@ -68,8 +66,7 @@ returns-in_err-put_closing-in-On g c = record {
 pub returns-in_ok-put_closing-in-On : goal.returns-in_ok-put_closing-in-On
 returns-in_ok-put_closing-in-On g c = record {
   tells =
-      let S = g.S.Supervisor in
-      let some = c.in_ok-going.ensures.tells in
+      let S = g.S.Supervisor in let some = c.in_ok-going.ensures.tells in
       let ends = c.in_ok-put_closing-in-On.ensures.some in
       told_ended g.W.Outside (map (λ name. name.items) c.args.names.now) c.args.events.now (S.told c.args.desk.now).order (S.told c.put_events.new.desk).order c.number.result c.args.outside.now c.put_one.new.outside c.put_events.new.outside c.in_ok-put_one.field-0 c.in_ok-put_one.ensures is_closed c.in_ok-going.going (Ok going.On) c.put_closing.new.outside some.count _
       (some.all (ap is_closed c.in-On.is)) (ends.0, ends.1, refl) some.tells
@@ -90,16 +87,11 @@ returns-in_ok-put_closing-in-On g c = record {
 
 pub returns-in_default : goal.returns-in_default
 returns-in_default g c =
-    let S = g.S.Supervisor in
-    let G = g.W.Outside in
-    let old = c.args.desk.now in
+    let S = g.S.Supervisor in let G = g.W.Outside in let old = c.args.desk.now in
     let names = map (λ name. name.items) c.args.names.now in
     let are = names_are (λ name. name.items) c.args.names.now c.requires.unbroken in
-    let new = c.put_events.new.desk in
-    let before = c.args.outside.now in
-    let between = c.put_one.new.outside in
-    let middle = c.put_events.new.outside in
-    let how = c.in_ok-going.going in
+    let new = c.put_events.new.desk in let before = c.args.outside.now in let between = c.put_one.new.outside in
+    let middle = c.put_events.new.outside in let how = c.in_ok-going.going in
     record {
       tells = told_stopped G names c.args.events.now (S.told old).order (S.told new).order c.number.result before between middle c.in_ok-put_one.field-0 c.in_ok-put_one.ensures is_closed (Ok how) c.in_ok-going.ensures.tells (not_on_closed how c.in_default.not-On);
       reports = λ start opened. reports_shut S G (laws g) names are old new start before between middle c.number.result c.args.events.now c.in_ok-put_one.field-0 how opened c.number.ensures c.in_ok-put_one.ensures c.in_ok-going.ensures.ran c.in_default.not-On;

@@ -6,9 +6,7 @@ pub returns-in-None : goal.returns-in-None
 returns-in-None g c = record {
   runs =
       λ start sure shows.
-      let S = g.S.Supervisor in
-      let now = c.loop-event.invariant in
-      let old = c.args.desk.now in
+      let S = g.S.Supervisor in let now = c.loop-event.invariant in let old = c.args.desk.now in
       let so_far = now.ran start sure shows in
       let it = ran_next_quietly S g.W.Outside g.met.W.Outside.fewer_later (S.told old).fixed.programs (S.told old).fixed.opened c.args.events.now c.loop-event.event-index (Begin 0 []) c.loop-event-test.true start c.loop-event.desk c.answer.new.desk c.args.outside.now c.loop-event.outside c.answer.new.outside c.loop-event.last.items c.answer.new.last.items (record { commits = c.loop-event.commits; rollbacks = c.loop-event.rollbacks }) None
       (now.still (g.met.S.Supervisor.shown_told old _ start shows).still_open) (ap (λ (fixed : Fixed). fixed.programs) now.answered.tells.fixed) (ap (λ (fixed : Fixed). fixed.opened) now.answered.tells.fixed) now.calls c.answer.ensures.kept.calls so_far.0 so_far.1 c.in-None.ensures.went in
@@ -25,8 +23,7 @@ returns-in-None g c = record {
   shut = λ was. shut_asked c.args.events.now c.loop-event.event-index going.Closed c.loop-event-test.true refl;
   calls = calls_on g.W.Outside g.met.W.Outside.fewer_later c.args.outside.now c.loop-event.outside c.answer.new.outside c.loop-event.invariant.calls.time c.answer.ensures.kept.calls.time c.loop-event.invariant.calls c.answer.ensures.kept.calls;
   answered =
-      let S = g.S.Supervisor in
-      let later = g.met.W.Outside.fewer_later in
+      let S = g.S.Supervisor in let later = g.met.W.Outside.fewer_later in
       answered_all S g.W.Outside later c.args.events.now (c.loop-event.event-index + 1) c.args.desk.now c.answer.new.desk c.args.outside.now c.answer.new.outside (Ok 0)
       (answered_more S g.W.Outside later c.args.events.now c.loop-event.event-index (Begin 0 []) c.loop-event-test.true c.args.desk.now c.loop-event.desk c.args.outside.now c.loop-event.outside c.answer.new.desk c.answer.new.outside (Ok 0) c.loop-event.invariant.answered c.answer.ensures.kept.answered);
 }
@@ -35,9 +32,7 @@ pub returns : goal.returns
 returns g c = record {
   runs =
       λ start sure shows.
-      let L = g.met.S.Supervisor in
-      let now = c.loop-event.invariant in
-      let it = now.ran start sure shows in
+      let L = g.met.S.Supervisor in let now = c.loop-event.invariant in let it = now.ran start sure shows in
       record {
         front = take c.loop-event.event-index c.args.events.now;
         rest = [];
@@ -55,12 +50,8 @@ returns g c = record {
 
 pub loop-event-init : goal.loop-event-init
 loop-event-init g c =
-    let S = g.S.Supervisor in
-    let G = g.W.Outside in
-    let L = g.met.S.Supervisor in
-    let M = g.met.W.Outside in
-    let old = c.args.desk.now in
-    let w = c.args.outside.now in
+    let S = g.S.Supervisor in let G = g.W.Outside in let L = g.met.S.Supervisor in let M = g.met.W.Outside in
+    let old = c.args.desk.now in let w = c.args.outside.now in
     record {
       answered = answered_none S G M.fewer_later old w c.requires.ready.bytes;
       calls = calls_none G w;
@@ -75,16 +66,9 @@ loop-event-init g c =
 
 pub loop-event-preserved : goal.loop-event-preserved
 loop-event-preserved g c =
-    let S = g.S.Supervisor in
-    let G = g.W.Outside in
-    let L = g.met.S.Supervisor in
-    let M = g.met.W.Outside in
-    let now = c.loop-event.invariant in
-    let old = c.args.desk.now in
-    let mid = c.loop-event.desk in
-    let new = c.answer.new.desk in
-    let before = c.args.outside.now in
-    let between = c.loop-event.outside in
+    let S = g.S.Supervisor in let G = g.W.Outside in let L = g.met.S.Supervisor in let M = g.met.W.Outside in
+    let now = c.loop-event.invariant in let old = c.args.desk.now in let mid = c.loop-event.desk in
+    let new = c.answer.new.desk in let before = c.args.outside.now in let between = c.loop-event.outside in
     let after = c.answer.new.outside in
     record {
       answered = answered_more S G M.fewer_later c.args.events.now c.loop-event.event-index (Begin 0 []) c.loop-event-test.true old mid before between new after (Ok 0) now.answered c.answer.ensures.kept.answered;

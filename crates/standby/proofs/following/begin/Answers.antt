@@ -58,12 +58,8 @@ record_line-requires-clause-room c =
 
 pub loop-index-preserved : goal.loop-index-preserved
 loop-index-preserved c =
-    let kept = c.args.sent.now in
-    let i = c.loop-index.index in
-    let was = c.loop-index.invariant.begun in
-    let now = c.loop-index.durable in
-    let size = c.line_bytes-bytes.result in
-    let at = c.lines_bytes-at.result in
+    let kept = c.args.sent.now in let i = c.loop-index.index in let was = c.loop-index.invariant.begun in
+    let now = c.loop-index.durable in let size = c.line_bytes-bytes.result in let at = c.lines_bytes-at.result in
     let inside : i < length kept.lines.items = omega (arith, c.loop-index-test.true, ap length c.deref-line-items.ensures.value) in
     let one : RecordLine = record {
       line = get_or c.deref-line-items.result.now i 0;
@@ -90,7 +86,6 @@ loop-index-preserved c =
 
 pub returns : goal.returns
 returns c =
-    let kept = c.args.sent.now in
-    let was = c.loop-index.invariant.begun in
+    let kept = c.args.sent.now in let was = c.loop-index.invariant.begun in
     let all = take_all c.loop-index.index (parted (line_bytes c.args.durable.now.header.directory.page) kept.lines.items kept.bytes.items) (omega (arith, c.loop-index-test.false, ap length c.deref-line-items.ensures.value, length-parted (line_bytes c.args.durable.now.header.directory.page) kept.lines.items kept.bytes.items)) in
     record { begun = was.begun; now_is = was.now_is; lines_are = was.lines_are ∙ all; bank_is = was.bank_is ∙ ap (bank_begun c.args.durable.now.bank) all }

@@ -1,3 +1,4 @@
+use Rattle.std.proofs.Common.{rules}
 use Rattle.standby.proofs.Lemmas.{◌≡◌, ℕ, ◌+◌, ◌-◌, List, length, map, take, drop, refl, sym, subst, ◌∙◌, ap, arith, length-map, line_bytes, most_lines, number_of, bank_behind, Follows, IsAlike, IsLongAt, behind, due, ShipLine, content_of, later, record_of, Done, Geometry, NotKept, Long, ShipRecord, common_steps, All, ◌≤◌, follows_none, not_done, FlatStore, AllFit, found_stopped}
 use Rattle.standby.proofs.BeginLemmas.{due_are, few_are, first_is, fitting}
 use Rattle.standby.proofs.following.follow.Given.{Over}
@@ -34,31 +35,6 @@ of_due g c follows is = subst (λ (n : ℕ). follows n (due (content_of c.args.s
 
 few : (g : Over) (c : goal.After-long_among g) → All (λ kept. length kept.lines.items ≤ c.most_lines.result) (slice g c) → All (λ kept. length kept.lines.items ≤ most_lines c.args.durable.now.header) (slice g c)
 few g c short = subst (λ (n : ℕ). All (λ (kept : ShipRecord). length kept.lines.items ≤ n) (slice g c)) (most g c) short
-
-pub returns-then-not-is_alike-clause-follows : goal.returns-then-not-is_alike-clause-follows
-returns-then-not-is_alike-clause-follows g c store tracks stood =
-    follows_none g.W.Outside g.met.W.Outside.fewer_later g.met.W.Outside.printed_now c.args.ship.now.line_bytes (number_of c.args.durable.now) store (due (content_of c.args.ship.now) (number_of c.args.durable.now)) c.args.durable.now c.args.outside.now Geometry (omega arith) tracks stood refl
-
-pub returns-then-passed-len-clause-follows : goal.returns-then-passed-len-clause-follows
-returns-then-passed-len-clause-follows g c store tracks stood =
-    follows_none g.W.Outside g.met.W.Outside.fewer_later g.met.W.Outside.printed_now c.args.ship.now.line_bytes (number_of c.args.durable.now) store (due (content_of c.args.ship.now) (number_of c.args.durable.now)) c.args.durable.now c.args.outside.now NotKept (omega arith) tracks stood refl
-
-pub returns-in-Some-clause-follows : goal.returns-in-Some-clause-follows
-returns-in-Some-clause-follows g c store tracks stood =
-    follows_none g.W.Outside g.met.W.Outside.fewer_later g.met.W.Outside.printed_now c.args.ship.now.line_bytes (number_of c.args.durable.now) store (due (content_of c.args.ship.now) (number_of c.args.durable.now)) c.args.durable.now c.args.outside.now (Long _) (omega arith) tracks stood refl
-
-pub returns-in-Some-clause-found : goal.returns-in-Some-clause-found
-returns-in-Some-clause-found g c =
-    let at = (goal.at.returns-in-Some-clause-found g c).After-long_among in
-    let long = subst (λ (n : ℕ). IsLongAt n (slice g at) c.in-Some.place) (most g at) c.in-Some.ensures.first in (
-      alike g at,
-      among g at,
-      (
-        c.in-Some.place,
-        ap (λ (n : ℕ). later n (c.in-Some.place + 1)) c.number-in-Some.ensures,
-        first_is c.args.ship.now c.args.durable.now.header c.requires.ship (alike g at) (passed g at) c.deref.result.now (slice g at) c.deref.ensures.value (slice_is g at) c.in-Some.place long,
-      ),
-    )
 
 pub keep_all-requires-clause-fitting : goal.keep_all-requires-clause-fitting
 keep_all-requires-clause-fitting g c =
@@ -104,17 +80,48 @@ returns-in-Err g c =
       follows = λ store tracks stood. of_due g at (λ bytes records. Goes bytes records store) (c.in-Err.ensures.follows store tracks stood);
     }
 
-pub returns-in-Some-clause-only : goal.returns-in-Some-clause-only
-returns-in-Some-clause-only g c = grind arith
-
-pub returns-then-passed-len-clause-found : goal.returns-then-passed-len-clause-found
-returns-then-passed-len-clause-found g c = grind (arith, common_steps)
-
-pub returns-then-passed-len-clause-only : goal.returns-then-passed-len-clause-only
-returns-then-passed-len-clause-only g c = grind arith
-
 pub keep_all-requires-clause-store : goal.keep_all-requires-clause-store
 keep_all-requires-clause-store g c = grind arith
 
-pub returns-then-not-is_alike-clause-only : goal.returns-then-not-is_alike-clause-only
-returns-then-not-is_alike-clause-only g c = grind (arith, common_steps)
+pub returns-then-not-is_alike : goal.returns-then-not-is_alike
+returns-then-not-is_alike g c = record {
+  found = first_of (search rules, grind (arith, common_steps));
+  refused = first_of (search rules, grind (arith, common_steps));
+  only = grind (arith, common_steps);
+  ends = first_of (search rules, grind (arith, common_steps));
+  header = first_of (search rules, grind (arith, common_steps));
+  kept = first_of (search rules, grind (arith, common_steps));
+  follows = λ store tracks stood. follows_none g.W.Outside g.met.W.Outside.fewer_later g.met.W.Outside.printed_now c.args.ship.now.line_bytes (number_of c.args.durable.now) store (due (content_of c.args.ship.now) (number_of c.args.durable.now)) c.args.durable.now c.args.outside.now Geometry (omega arith) tracks stood refl;
+}
+
+pub returns-then-passed-len : goal.returns-then-passed-len
+returns-then-passed-len g c = record {
+  found = grind (arith, common_steps);
+  refused = first_of (search rules, grind (arith, common_steps));
+  only = grind arith;
+  ends = first_of (search rules, grind (arith, common_steps));
+  header = first_of (search rules, grind (arith, common_steps));
+  kept = first_of (search rules, grind (arith, common_steps));
+  follows = λ store tracks stood. follows_none g.W.Outside g.met.W.Outside.fewer_later g.met.W.Outside.printed_now c.args.ship.now.line_bytes (number_of c.args.durable.now) store (due (content_of c.args.ship.now) (number_of c.args.durable.now)) c.args.durable.now c.args.outside.now NotKept (omega arith) tracks stood refl;
+}
+
+pub returns-in-Some : goal.returns-in-Some
+returns-in-Some g c = record {
+  found =
+      let at = (goal.at.returns-in-Some g c).After-long_among in
+      let long = subst (λ (n : ℕ). IsLongAt n (slice g at) c.in-Some.place) (most g at) c.in-Some.ensures.first in (
+        alike g at,
+        among g at,
+        (
+          c.in-Some.place,
+          ap (λ (n : ℕ). later n (c.in-Some.place + 1)) c.number-in-Some.ensures,
+          first_is c.args.ship.now c.args.durable.now.header c.requires.ship (alike g at) (passed g at) c.deref.result.now (slice g at) c.deref.ensures.value (slice_is g at) c.in-Some.place long,
+        ),
+      );
+  refused = first_of (search rules, grind (arith, common_steps));
+  only = grind arith;
+  ends = first_of (search rules, grind (arith, common_steps));
+  header = first_of (search rules, grind (arith, common_steps));
+  kept = first_of (search rules, grind (arith, common_steps));
+  follows = λ store tracks stood. follows_none g.W.Outside g.met.W.Outside.fewer_later g.met.W.Outside.printed_now c.args.ship.now.line_bytes (number_of c.args.durable.now) store (due (content_of c.args.ship.now) (number_of c.args.durable.now)) c.args.durable.now c.args.outside.now (Long _) (omega arith) tracks stood refl;
+}

@@ -3,10 +3,8 @@ use Rattle.standby.proofs.read.held_of.Goals as goal
 
 pub returns-in-Some-2 : goal.returns-in-Some-2
 returns-in-Some-2 c =
-    let text = c.args.text.now in
-    let at = c.in-Some.at in
-    let told = rw c.in-Some-2.is at c.in_ok-held-in-Some.ensures in
-    let digits = told.0 in
+    let text = c.args.text.now in let at = c.in-Some.at in
+    let told = rw c.in-Some-2.is at c.in_ok-held-in-Some.ensures in let digits = told.0 in
     let long = length-take-le at text (omega (arith, c.in-Some.ensures.inside)) in (
       omega (arith, ap length digits, long, length-encode_with lower_digits c.in-Some-2.held.items, c.if-at-from.false, c.from.ensures),
       told.1,

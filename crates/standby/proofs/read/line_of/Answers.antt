@@ -3,10 +3,7 @@ use Rattle.standby.proofs.read.line_of.Goals as goal
 
 pub returns-in-None : goal.returns-in-None
 returns-in-None c = λ one that.
-    let line = one.0 in
-    let held = one.1 in
-    let rest = one.2 in
-    let parts = that.4 ∙ line_parts line held rest in
+    let line = one.0 in let held = one.1 in let rest = one.2 in let parts = that.4 ∙ line_parts line held rest in
     let skipped : c.skip.result.now ≡ decimal line ++ 32 ∷ (encode_lower held ++ 10 ∷ rest) = c.skip.ensures ∙ ap (λ (text : List ℕ). drop 5 text) parts in
     let first = c.number_to-line.ensures line (encode_lower held ++ 10 ∷ rest) (omega (arith, that.1, c.ranges.most.fits)) skipped in
     let number = c.small-line.ensures (omega (arith, that.1, c.ranges.most.fits, first.0)) ∙ first.0 in

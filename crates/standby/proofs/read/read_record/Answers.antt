@@ -9,11 +9,8 @@ returns-in-None-clause-fault c = λ front number small is.
 
 pub loop-index-preserved : goal.loop-index-preserved
 loop-index-preserved c =
-    let told = rw c.in-Some.is at c.in_ok-line.ensures in
-    let was = c.loop-index.invariant in
-    let bytes = c.args.line_bytes in
-    let kept = c.loop-index.record in
-    let line = c.in-Some.line in
+    let told = rw c.in-Some.is at c.in_ok-line.ensures in let was = c.loop-index.invariant in
+    let bytes = c.args.line_bytes in let kept = c.loop-index.record in let line = c.in-Some.line in
     let held = c.in-Some.bytes.items in
     let one : ShipLine = record { line = line; bytes = held } in
     let lines_are = c.in_ok-push-in-Some.ensures.items in

@@ -3,8 +3,7 @@ use Rattle.standby.proofs.read.read_records.Goals as goal
 
 pub loop-count-init : goal.loop-count-init
 loop-count-init c =
-    let none = c.new-records.ensures.items in
-    let bytes = c.args.line_bytes in
+    let none = c.new-records.ensures.items in let bytes = c.args.line_bytes in
     let head = head_line bytes c.args.lines c.args.start in
     record {
       number = omega (arith, ap length none, c.ranges.start.fits);
@@ -19,15 +18,10 @@ loop-count-init c =
 
 pub loop-count-preserved : goal.loop-count-preserved
 loop-count-preserved c =
-    let was = c.loop-count.invariant in
-    let bytes = c.args.line_bytes in
-    let head = head_line bytes c.args.lines c.args.start in
-    let items = c.loop-count.records.items in
-    let records = map (record_of bytes) items in
-    let kept = c.in-Ok.record in
-    let done = c.in-Ok.ensures.done in
-    let told = c.in-Some.ensures in
-    let pushed = c.in_ok-push-in-Ok.ensures.items in
+    let was = c.loop-count.invariant in let bytes = c.args.line_bytes in
+    let head = head_line bytes c.args.lines c.args.start in let items = c.loop-count.records.items in
+    let records = map (record_of bytes) items in let kept = c.in-Ok.record in let done = c.in-Ok.ensures.done in
+    let told = c.in-Some.ensures in let pushed = c.in_ok-push-in-Ok.ensures.items in
     let all = ap (map (record_of bytes)) pushed ∙ map-append (record_of bytes) items (kept ∷ []) in
     let many = length-parted bytes kept.lines.items kept.bytes.items ∙ done.many in
     let number : c.loop-count.number ≡ later c.args.start (length records) = was.number ∙ ap (later c.args.start) (sym (length-map items (record_of bytes))) in
@@ -50,13 +44,11 @@ loop-count-preserved c =
 
 pub returns-in-Err : goal.returns-in-Err
 returns-in-Err c =
-    let was = c.loop-count.invariant in
-    let bytes = c.args.line_bytes in
+    let was = c.loop-count.invariant in let bytes = c.args.line_bytes in
     let head = head_line bytes c.args.lines c.args.start in
     let records = map (record_of bytes) c.loop-count.records.items in
     let front = head ++ records_text c.args.start records in
-    let line = record_line (next c.loop-count.number) c.in-Some.count in
-    let told = c.in-Some.ensures in
+    let line = record_line (next c.loop-count.number) c.in-Some.count in let told = c.in-Some.ensures in
     let text : (front ++ line) ++ c.in-Some.rest.now ≡ head ++ c.args.text.now =
     append_assoc front line c.in-Some.rest.now ∙ ap (λ (these : List ℕ). front ++ these) (sym told.1) ∙ sym (whole_text head c.args.text.now c.loop-count.left.now c.args.start records was.text) in
     subst (λ (these : List ℕ). IsReadFault these c.in-Err.fault) text
@@ -64,12 +56,9 @@ returns-in-Err c =
 
 pub returns-then-is_empty : goal.returns-then-is_empty
 returns-then-is_empty c =
-    let was = c.loop-count.invariant in
-    let bytes = c.args.line_bytes in
-    let head = head_line bytes c.args.lines c.args.start in
-    let items = c.loop-count.records.items in
-    let records = map (record_of bytes) items in
-    let front = head ++ records_text c.args.start records in
+    let was = c.loop-count.invariant in let bytes = c.args.line_bytes in
+    let head = head_line bytes c.args.lines c.args.start in let items = c.loop-count.records.items in
+    let records = map (record_of bytes) items in let front = head ++ records_text c.args.start records in
     let number : c.loop-count.number ≡ later c.args.start (length records) = was.number ∙ ap (later c.args.start) (sym (length-map items (record_of bytes))) in
     let empty = empty_is c.in-Some-behind.rest.now c.if-is_empty.ensures in
     let last : c.loop-count.left.now ≡ end_line (later c.args.start (length records)) =
@@ -89,8 +78,7 @@ returns-then-is_empty c =
 
 pub returns-else-is_empty : goal.returns-else-is_empty
 returns-else-is_empty c =
-    let was = c.loop-count.invariant in
-    let bytes = c.args.line_bytes in
+    let was = c.loop-count.invariant in let bytes = c.args.line_bytes in
     let head = head_line bytes c.args.lines c.args.start in
     let records = map (record_of bytes) c.loop-count.records.items in
     let front = head ++ records_text c.args.start records in
@@ -101,8 +89,7 @@ returns-else-is_empty c =
 
 pub returns-in-None : goal.returns-in-None
 returns-in-None c =
-    let was = c.loop-count.invariant in
-    let bytes = c.args.line_bytes in
+    let was = c.loop-count.invariant in let bytes = c.args.line_bytes in
     let head = head_line bytes c.args.lines c.args.start in
     let records = map (record_of bytes) c.loop-count.records.items in
     let front = head ++ records_text c.args.start records in

@@ -16,8 +16,7 @@ loop-index-preserved g c = record {
       let lt : c.loop-index._index < length read.records = omega (arith, read.count, c.requires.passed, c.loop-index-test.true) in
       let at = record_there (held_of g.W.Outside c.loop-index.outside) c.args.durable.now.bank c.loop-index.place read c.loop-index._index lt
       (c.loop-index.invariant.place shown ∙ ap (λ (records : List (List RecordLine)). area_bytes c.args.durable.now.bank.page (take c.loop-index._index records)) (sym still.1)) in
-      let counted = c.in-Ok.ensures.read still.0.told at.0 in
-      let before = c.loop-index.invariant.place shown in
+      let counted = c.in-Ok.ensures.read still.0.told at.0 in let before = c.loop-index.invariant.place shown in
       let same = ap (λ (records : List (List RecordLine)). area_bytes c.args.durable.now.bank.page (take (c.loop-index._index + 1) records)) still.1 in
       let was = ap (λ (records : List (List RecordLine)). area_bytes c.args.durable.now.bank.page (take c.loop-index._index records)) still.1 in
       omega (arith, next_is c.args.durable.now.header.directory.page c.args.durable.now.bank.page c.loop-index.place at.0.lines (get_or read.records c.loop-index._index []) c.in-Ok.record still.0.shows.fits.page at.1 counted, before, same, was, area_more c.args.durable.now.bank.page read.records c.loop-index._index lt);

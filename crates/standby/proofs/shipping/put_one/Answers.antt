@@ -13,8 +13,7 @@ returns g c = record {
       subst (λ (bytes : List ℕ). (length bytes ≡ line_bytes c.args.durable.now.header.directory.page) × All (λ byte. byte < 256) bytes) are (grind (arith, elements)));
   goes = grind (arith, shows_on g.W.Outside g.met.W.Outside.fewer_later c.args.outside.now c.line_at.new.outside c.put_line.new.outside (shows_asks g.W.Outside c.args.outside.now c.line_at.new.outside c.line_at.ensures.asks) (shows_line g.W.Outside c.as_slice.result.now c.line_at.new.outside c.put_line.new.outside _ c.put_line.ensures.puts));
   prints = λ shown at many one there.
-      let G = g.W.Outside in
-      let read = c.in-Ok.ensures.read shown.told at (sym many) in
+      let G = g.W.Outside in let read = c.in-Ok.ensures.read shown.told at (sym many) in
       let same : read.one ≡ one = cc in
       let text : c.as_slice.result.now ≡ line_line one.line one.bytes =
       c.as_slice.ensures ∙ c.fill_line.ensures.text ∙ ap (λ (n : ℕ). line_line n c.line_at.new.into) read.number ∙ ap (λ (bytes : List ℕ). line_line read.one.line bytes) read.bytes_are ∙ ap (λ (that : RecordLine). line_line that.line that.bytes) same in

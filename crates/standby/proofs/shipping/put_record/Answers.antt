@@ -36,8 +36,7 @@ returns-in-Err-put_one g c = record {
   bytes = search rules;
   goes = grind (arith, shows_on g.W.Outside g.met.W.Outside.fewer_later c.args.outside.now c.loop-index.outside c.put_one.new.outside c.loop-index.invariant.only c.put_one.ensures.goes.only);
   prints = λ shown at many.
-      let G = g.W.Outside in
-      let i = c.loop-index.index in
+      let G = g.W.Outside in let i = c.loop-index.index in
       let lt : i < length at.lines = omega (arith, many, c.loop-index-test.true) in
       let one = get_or at.lines i no_record in
       let part = said G c.args.durable.now c.args.entry.now i c.args.outside.now c.loop-index.outside shown at (λ (one : RecordLine). Prints (G.printed c.loop-index.outside) (G.printed c.put_one.new.outside) (line_line one.line one.bytes) broken)
@@ -65,9 +64,7 @@ loop-index-init g c =
 
 pub loop-index-preserved : goal.loop-index-preserved
 loop-index-preserved g c =
-    let G = g.W.Outside in
-    let old = c.args.outside.now in
-    let mid = c.loop-index.outside in
+    let G = g.W.Outside in let old = c.args.outside.now in let mid = c.loop-index.outside in
     let i = c.loop-index.index in
     record {
       only = shows_on G g.met.W.Outside.fewer_later old mid c.put_one.new.outside c.loop-index.invariant.only c.put_one.ensures.goes.only;
@@ -75,8 +72,7 @@ loop-index-preserved g c =
       put = c.in-Ok-put_one.ensures.goes.ends.1 ∙ c.loop-index.invariant.put;
       so_far = λ shown at many.
           let lt : i < length at.lines = omega (arith, many, c.loop-index-test.true) in
-          let one = get_or at.lines i no_record in
-          let head = record_line c.args.number c.args.entry.now.count in
+          let one = get_or at.lines i no_record in let head = record_line c.args.number c.args.entry.now.count in
           subst (λ (bytes : List ℕ). PrintsBy {T = Unit {0}} G bytes old c.put_one.new.outside (Ok tt)) (text_more head at.lines i one lt (slice_get-get_or at.lines i no_record lt))
           (prints_by G old mid c.put_one.new.outside (head ++ lines_text (take i (told at.lines))) (line_line one.line one.bytes) (Ok tt) (c.loop-index.invariant.so_far shown at many)
           (said G c.args.durable.now c.args.entry.now i old mid shown at (λ (one : RecordLine). PrintsBy {T = Unit {0}} G (line_line one.line one.bytes) mid c.put_one.new.outside (Ok tt)) many c.loop-index.invariant.only.held c.loop-index-test.true c.in-Ok-put_one.ensures.prints));

@@ -64,14 +64,9 @@ returns-in-Err-put_record g c = record {
         (shows_on g.W.Outside g.met.W.Outside.fewer_later c.loop-index.outside c.record_at.new.outside c.put_record.new.outside (shows_asks g.W.Outside c.loop-index.outside c.record_at.new.outside c.record_at.ensures.asks) c.put_record.ensures.goes.only),
   );
   prints = λ shown is.
-      let G = g.W.Outside in
-      let old = c.args.outside.now in
-      let here = (goal.at.returns-in-Err-put_record g c).In-Ok in
-      let records = shown.shows.read.records in
-      let index = c.loop-index.index in
-      let i = index - c.args.passed in
-      let number = later c.args.durable.now.bank.base c.args.passed in
-      let behind = drop c.args.passed records in
+      let G = g.W.Outside in let old = c.args.outside.now in let here = (goal.at.returns-in-Err-put_record g c).In-Ok in
+      let records = shown.shows.read.records in let index = c.loop-index.index in let i = index - c.args.passed in
+      let number = later c.args.durable.now.bank.base c.args.passed in let behind = drop c.args.passed records in
       let le : c.args.passed ≤ index = omega (arith, c.loop-index.auto.index) in
       let at = lies g here shown (c.loop-index.invariant.place shown is) in
       let text = text_is c.args.durable.now.bank.base c.args.passed index ((c.base.result + (c.from.result + 1)) % 2 ^ 64) records at.1.0.lines le (omega (arith, c.base.ensures, c.from.ensures)) at.1.1.0 in
@@ -86,14 +81,9 @@ returns-in-Err-put_record g c = record {
 
 pub loop-index-preserved : goal.loop-index-preserved
 loop-index-preserved g c =
-    let G = g.W.Outside in
-    let here = (goal.at.loop-index-preserved g c).In-Ok in
-    let old = c.args.outside.now in
-    let loop = c.loop-index.outside in
-    let mid = c.record_at.new.outside in
-    let index = c.loop-index.index in
-    let i = index - c.args.passed in
-    let number = later c.args.durable.now.bank.base c.args.passed in
+    let G = g.W.Outside in let here = (goal.at.loop-index-preserved g c).In-Ok in let old = c.args.outside.now in
+    let loop = c.loop-index.outside in let mid = c.record_at.new.outside in let index = c.loop-index.index in
+    let i = index - c.args.passed in let number = later c.args.durable.now.bank.base c.args.passed in
     let le : c.args.passed ≤ index = omega (arith, c.loop-index.auto.index) in
     let on : i + 1 ≡ index + 1 - c.args.passed = omega (arith, le) in
     record {
@@ -104,8 +94,7 @@ loop-index-preserved g c =
       put = c.in-Ok-put_record.ensures.goes.ends.1 ∙ c.record_at.ensures.asks.calls.put ∙ c.loop-index.invariant.put;
       inside = ⊎_elim (λ none. omega (arith, none.1, c.requires.may.some)) (λ some. some.1) c.in-Ok.ensures.found.fits;
       place = λ shown is.
-          let records = shown.shows.read.records in
-          let place = c.loop-index.invariant.place shown is in
+          let records = shown.shows.read.records in let place = c.loop-index.invariant.place shown is in
           let first = lay g here shown place in
           omega (arith, next_is c.args.durable.now.header.directory.page c.args.durable.now.bank.page c.loop-index.place first.0.lines (get_or records index []) c.in-Ok.record shown.shows.fits.page first.1.0 first.1.1, place, area_more c.args.durable.now.bank.page records index (within g here shown));
       so_far = λ shown is.
@@ -146,8 +135,7 @@ returns-in-Err g c = record {
   goes = grind (arith, shows_on g.W.Outside g.met.W.Outside.fewer_later c.args.outside.now c.loop-index.outside c.record_at.new.outside c.loop-index.invariant.only (shows_asks g.W.Outside c.loop-index.outside c.record_at.new.outside c.record_at.ensures.asks));
   prints = λ shown is.
       let number = later c.args.durable.now.bank.base c.args.passed in
-      let behind = drop c.args.passed shown.shows.read.records in
-      let i = c.loop-index.index - c.args.passed in
+      let behind = drop c.args.passed shown.shows.read.records in let i = c.loop-index.index - c.args.passed in
       let rest = part_of number behind i in
       prints_same (g.W.Outside.printed c.args.outside.now) (g.W.Outside.printed c.record_at.new.outside) (records_text number (take i (map told behind)) ++ rest.0) (records_text number (map told behind)) broken rest.1
       (prints_on (g.W.Outside.printed c.args.outside.now) (g.W.Outside.printed c.loop-index.outside) (g.W.Outside.printed c.record_at.new.outside) (records_text number (take i (map told behind))) rest.0 tt broken (c.loop-index.invariant.so_far shown is).0

@@ -36,8 +36,7 @@ returns-in-Err-put_line g c = record {
   bytes = search rules;
   goes = grind (arith, line_only g (goal.at.returns-in-Err-put_line g c).After-put_line);
   prints = λ shown.
-      let G = g.W.Outside in
-      let content = shipped c.args.durable.now shown.shows.read.records c.args.from in
+      let G = g.W.Outside in let content = shipped c.args.durable.now shown.shows.read.records c.args.from in
       let head = head_line (line_bytes c.args.durable.now.header.directory.page) (line_count c.args.durable.now.header.directory) c.args.from in
       prints_stop (G.printed c.args.outside.now) (G.printed c.put_line.new.outside) (head ++ records_text content.start content.records) (end_line (later content.start (length content.records))) broken broken refl refl
       (prints_stop (G.printed c.args.outside.now) (G.printed c.put_line.new.outside) head (records_text content.start content.records) broken broken refl refl
@@ -66,14 +65,10 @@ returns-in-Err-put_records g c = record {
       let at = goal.at.returns-in-Err-put_records g c in
       grind (arith, records_only g at.After-put_records (line_only g at.After-put_line));
   prints = λ shown.
-      let G = g.W.Outside in
-      let content = shipped c.args.durable.now shown.shows.read.records c.args.from in
+      let G = g.W.Outside in let content = shipped c.args.durable.now shown.shows.read.records c.args.from in
       let head = head_line (line_bytes c.args.durable.now.header.directory.page) (line_count c.args.durable.now.header.directory) c.args.from in
-      let then = (goal.at.returns-in-Err-put_records g c).After-put_line in
-      let still = still_there g then shown in
-      let old = c.args.outside.now in
-      let mid = c.put_line.new.outside in
-      let new = c.put_records.new.outside in
+      let then = (goal.at.returns-in-Err-put_records g c).After-put_line in let still = still_there g then shown in
+      let old = c.args.outside.now in let mid = c.put_line.new.outside in let new = c.put_records.new.outside in
       prints_stop (G.printed old) (G.printed new) (head ++ records_text content.start content.records) (end_line (later content.start (length content.records))) broken broken refl refl
       (prints_on (G.printed old) (G.printed mid) (G.printed new) head (records_text content.start content.records) tt broken (line_put g then (Ok tt) c.in-Ok-put_line.ensures.puts).0
       (subst (λ (bytes : List ℕ). Prints (G.printed mid) (G.printed new) bytes broken) (records_are c.args.durable.now.bank.base c.args.passed c.args.from shown.shows.read.records still.0.shows.read.records c.requires.from c.requires.behind still.1.0)
@@ -90,11 +85,8 @@ returns g c = record {
             (shows_line g.W.Outside c.as_slice-2.result.now c.put_records.new.outside c.put_line-2.new.outside (put_of c.put_line-2.result) c.put_line-2.ensures.puts),
       );
   prints = λ shown.
-      let G = g.W.Outside in
-      let line = (goal.at.returns g c).After-put_line in
-      let old = c.args.outside.now in
-      let then = c.put_records.new.outside in
-      let new = c.put_line-2.new.outside in
+      let G = g.W.Outside in let line = (goal.at.returns g c).After-put_line in let old = c.args.outside.now in
+      let then = c.put_records.new.outside in let new = c.put_line-2.new.outside in
       let content = shipped c.args.durable.now shown.shows.read.records c.args.from in
       let head = head_line (line_bytes c.args.durable.now.header.directory.page) (line_count c.args.durable.now.header.directory) c.args.from in
       let still = still_there g line shown in

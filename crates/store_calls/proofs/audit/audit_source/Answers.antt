@@ -1,15 +1,22 @@
-use Rattle.store_calls.proofs.Common.{ℕ, List, subst, sym, IsWholeBundle, text_fails}
+use Rattle.store_calls.proofs.Common.{rules, ℕ, List, subst, sym, IsWholeBundle, text_fails}
 use Rattle.store_calls.proofs.PromiseLemmas.{audit_ends}
 use Rattle.store_calls.proofs.audit.audit_source.Goals as goal
 
-pub returns-in-Ok-clause-complete : goal.returns-in-Ok-clause-complete
-returns-in-Ok-clause-complete g c = λ can calm put.
-    let did = c.audit_text.ensures in
-    let left = g.S.Source.left c.args.source.now in
-    let left_now = g.S.Source.left c.read_text.new.source in
-    let whole = subst (λ (these : List ℕ). IsWholeBundle left left_now these) (sym c.deref.ensures.value) c.in-Ok.ensures.bytes in
-    audit_ends g.W.Outside left left_now c.args.outside.now c.audit_text.new.outside c.deref.result.now whole can c.audit_text.result did.audited did.ends.only (λ is. put (did.ends.faults.put is))
+pub returns-in-Ok : goal.returns-in-Ok
+returns-in-Ok g c = record {
+  ends = search rules;
+  complete =
+      λ can calm put.
+      let did = c.audit_text.ensures in let left = g.S.Source.left c.args.source.now in
+      let left_now = g.S.Source.left c.read_text.new.source in
+      let whole = subst (λ (these : List ℕ). IsWholeBundle left left_now these) (sym c.deref.ensures.value) c.in-Ok.ensures.bytes in
+      audit_ends g.W.Outside left left_now c.args.outside.now c.audit_text.new.outside c.deref.result.now whole can c.audit_text.result did.audited did.ends.only (λ is. put (did.ends.faults.put is));
+}
 
-pub returns-in-Err-clause-complete : goal.returns-in-Err-clause-complete
-returns-in-Err-clause-complete g c = λ can calm put.
-    text_fails 33554432 c.in-Err.fault (g.S.Source.left c.args.source.now) (g.S.Source.left c.read_text.new.source) _ can.has.text c.from.result can.has.has_text can.has.few c.in-Err.ensures.bytes calm c.from.ensures
+pub returns-in-Err : goal.returns-in-Err
+returns-in-Err g c = record {
+  ends = search rules;
+  complete =
+      λ can calm put.
+      text_fails 33554432 c.in-Err.fault (g.S.Source.left c.args.source.now) (g.S.Source.left c.read_text.new.source) _ can.has.text c.from.result can.has.has_text can.has.few c.in-Err.ensures.bytes calm c.from.ensures;
+}

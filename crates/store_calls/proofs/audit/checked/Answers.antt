@@ -12,9 +12,7 @@ by_closing bytes bundle job report opening opened status (inr is) = subst (IsUnc
 
 pub returns-in_err-closing : goal.returns-in_err-closing
 returns-in_err-closing c =
-    let bytes = c.args.bytes.now in
-    let parts = c.in_ok-opened.opened in
-    let status = c.in_err-closing.field-0.0 in
+    let bytes = c.args.bytes.now in let parts = c.in_ok-opened.opened in let status = c.in_err-closing.field-0.0 in
     handed_on _ (IsUnchecked bytes) c.from_residual-in_err-closing.result status c.from_residual-in_err-closing.ensures
     (by_closing bytes parts.bundle parts.job parts.report.items parts.opening c.in_ok-opened.ensures.opened status
     (subst (λ (text : List ℕ). ((offset : ℕ) × (status ≡ Status.Bundle 4 offset) × IsFaultAt text offset) ⊎ (status ≡ Status.NoMemory)) c.part.ensures c.in_err-closing.ensures))

@@ -14,16 +14,14 @@ module _ (bytes : List ℕ) (bundle : Bundle) (parts : IsBundle bytes bundle) (c
 
 pub returns-in_err-report-clause-opened : goal.returns-in_err-report-clause-opened
 returns-in_err-report-clause-opened c =
-    let bytes = c.args.bytes.now in
-    let bundle = c.in-Ok.bundle in
+    let bytes = c.args.bytes.now in let bundle = c.in-Ok.bundle in
     handed_on _ (IsShut bytes) c.from_residual-in_err-report.result c.in_err-report.field-0.0 c.from_residual-in_err-report.ensures
     (shut_by_report bytes bundle c.in-Ok.ensures (content_of c.in_ok-job.job) (ap job_of (sym c.part.ensures) ∙ c.in_ok-job.ensures.answer) c.in_err-report.field-0.0
     (subst (λ (text : List ℕ). ((number : ℕ) × (c.in_err-report.field-0.0 ≡ Status.Bundle 2 number) × IsFirstBad text number) ⊎ (c.in_err-report.field-0.0 ≡ Status.NoMemory)) c.part-2.ensures c.in_err-report.ensures.read))
 
 pub returns-in_err-opening-clause-opened : goal.returns-in_err-opening-clause-opened
 returns-in_err-opening-clause-opened c =
-    let bytes = c.args.bytes.now in
-    let bundle = c.in-Ok.bundle in
+    let bytes = c.args.bytes.now in let bundle = c.in-Ok.bundle in
     handed_on _ (IsShut bytes) c.from_residual-in_err-opening.result c.in_err-opening.field-0.0 c.from_residual-in_err-opening.ensures
     (shut_by_opening bytes bundle c.in-Ok.ensures (content_of c.in_ok-job.job) (ap job_of (sym c.part.ensures) ∙ c.in_ok-job.ensures.answer)
     c.in_ok-report.report.items (subst (λ (text : List ℕ). AreCommitsOf text c.in_ok-report.report.items) c.part-2.ensures c.in_ok-report.ensures.read) c.in_err-opening.field-0.0

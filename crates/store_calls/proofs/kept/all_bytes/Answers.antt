@@ -15,13 +15,9 @@ loop-number-init g c =
 
 pub loop-number-preserved : goal.loop-number-preserved
 loop-number-preserved g c =
-    let G = g.W.Outside in
-    let later = g.met.W.Outside.fewer_later in
-    let before = c.args.outside.now in
-    let here = c.loop-number.outside in
-    let shown = c.loop-number.invariant.shows in
-    let number = c.loop-number.number in
-    let size = page_bytes c.args.store.now.header.directory.page in
+    let G = g.W.Outside in let later = g.met.W.Outside.fewer_later in let before = c.args.outside.now in
+    let here = c.loop-number.outside in let shown = c.loop-number.invariant.shows in
+    let number = c.loop-number.number in let size = page_bytes c.args.store.now.header.directory.page in
     let this : Standing = stands (held_of G before) in
     record {
       shows = shows_on G later before here c.read_page.new.outside shown (shows_asks G here c.read_page.new.outside c.read_page.ensures.asks);

@@ -25,8 +25,7 @@ keeps_all held store shows kept directory number items =
 
 pub returns : goal.returns
 returns g c = λ told.
-    let G = g.W.Outside in
-    let store = c.in_ok-durable.durable in
+    let G = g.W.Outside in let store = c.in_ok-durable.durable in
     let old : List ℕ = held_of G c.args.outside.now in
     let held = c.in_ok-durable.ensures.asks.asks.held in
     let same : held_of G c.open.new.outside ≡ old = ap (λ (held : Option (List ℕ)). unwrap_or held []) held in

@@ -4,9 +4,7 @@ use Rattle.store_calls.proofs.new.make_store.Goals as goal
 
 pub returns : goal.returns
 returns g c =
-    let G = g.W.Outside in
-    let header = c.args.header.now in
-    let before = c.args.outside.now in
+    let G = g.W.Outside in let header = c.args.header.now in let before = c.args.outside.now in
     let after = c.write_store.new.outside in
     let image : c.as_slice.result.now ≡ fresh header = c.as_slice.ensures.value ∙ c.in-Ok.ensures.bytes in
     let line : c.as_slice-2.result.now ≡ new_line header = c.as_slice-2.ensures ∙ c.new_line-line.ensures ∙ ap (λ (n : ℕ). codes "new " ++ decimal n ++ codes "\n") c.total.ensures.value in

@@ -4,11 +4,8 @@ use Rattle.store_calls.proofs.renew.renew_store.Goals as goal
 
 pub returns-in-Err-ask_empty : goal.returns-in-Err-ask_empty
 returns-in-Err-ask_empty g c =
-    let G = g.W.Outside in
-    let old = c.in-Ok.old in
-    let bank = c.args.bank_bytes in
-    let image = renewed_image bank old.number (flat_of old) in
-    let line = renew_line (length image) old.number in
+    let G = g.W.Outside in let old = c.in-Ok.old in let bank = c.args.bank_bytes in
+    let image = renewed_image bank old.number (flat_of old) in let line = renew_line (length image) old.number in
     let did =
     renewed_no_empty G bank (given g.S.Source c.args.source.now c.old_store.new.source) c.args.outside.now c.ask_empty.new.outside c.in-Ok.ensures.unfailed old c.in-Ok.ensures.has
     c.requires.least c.requires.most c.in-Err-ask_empty.status c.in-Err-ask_empty.ensures.refused
@@ -17,11 +14,8 @@ returns-in-Err-ask_empty g c =
 
 pub returns : goal.returns
 returns g c =
-    let G = g.W.Outside in
-    let before = c.args.outside.now in
-    let after = c.write_store.new.outside in
-    let old = c.in-Ok.old in
-    let bank = c.args.bank_bytes in
+    let G = g.W.Outside in let before = c.args.outside.now in let after = c.write_store.new.outside in
+    let old = c.in-Ok.old in let bank = c.args.bank_bytes in
     let image : c.as_slice.result.now ≡ renewed_image bank old.number (flat_of old) = c.as_slice.ensures.value ∙ c.in-Ok-renewed_image.ensures in
     let line : c.as_slice-2.result.now ≡ renew_line (length (renewed_image bank old.number (flat_of old))) old.number =
     c.as_slice-2.ensures ∙ c.renew_line-line.ensures ∙ ap (λ (n : ℕ). renew_line n old.number) (c.len.ensures ∙ sym c.as_slice.ensures.len ∙ ap length image) in

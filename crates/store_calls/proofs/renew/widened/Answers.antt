@@ -13,8 +13,7 @@ not_ok result is ok = grind (arith, nat_tests)
 
 pub loop-segment-preserved : goal.loop-segment-preserved
 loop-segment-preserved c =
-    let segments = c.segments-segment-items.result.now in
-    let i = c.loop-segment.segment-index in
+    let segments = c.segments-segment-items.result.now in let i = c.loop-segment.segment-index in
     let segment = slice_index_or segments i (0, 0) in
     let room : length c.loop-segment.segments.items < 15 =
     omega (arith, c.loop-segment-test.true, c.segments-segment-items.ensures.legal.few, ap length c.segments-segment-items.ensures.value, ap length c.loop-segment.invariant, length-map {B = ℕ × ℕ} (take i segments) (λ (those : ℕ × ℕ). (those.0, (those.1 + 1) / 2)), length-take i segments) in

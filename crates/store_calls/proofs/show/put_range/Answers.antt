@@ -11,8 +11,7 @@ parts-init g c = record {
 
 pub returns-in-Err : goal.returns-in-Err
 returns-in-Err g c =
-    let done = c.parts.done in
-    let count = c.min-count.result in
+    let done = c.parts.done in let count = c.min-count.result in
     let inside : done + count ≤ c.args.range.now.count = omega (arith, c.parts-test.true, c.min-count.ensures) in
     let full : done + count < c.args.range.now.count → count ≡ 2048 = λ more. omega (arith, c.min-count.ensures, more) in
     record {
@@ -22,9 +21,7 @@ returns-in-Err g c =
 
 pub parts-preserved : goal.parts-preserved
 parts-preserved g c =
-    let G = g.W.Outside in
-    let done = c.parts.done in
-    let count = c.min-count.result in
+    let G = g.W.Outside in let done = c.parts.done in let count = c.min-count.result in
     let inside : done + count ≤ c.args.range.now.count = omega (arith, c.parts-test.true, c.min-count.ensures) in
     let full : done + count < c.args.range.now.count → count ≡ 2048 = λ more. omega (arith, c.min-count.ensures, more) in
     let whole = c.parts.invariant.whole c.parts-test.true in

@@ -10,8 +10,7 @@ returns-then-is_empty g c = record {
   asks = search rules;
   cause = search rules;
   read = λ shown.
-      let split = c.split_at_mut-front.ensures in
-      let back = c.split_at_mut-front.result.1.now in
+      let split = c.split_at_mut-front.ensures in let back = c.split_at_mut-front.result.1.now in
       let empty : length back ≡ 0 = no_more back c.is_empty.result c.is_empty.ensures c.if-is_empty.true in
       in_two_pages (stands (held_of g.W.Outside c.args.outside.now)) c.args.at (length c.split_at_mut-front.result.0.now) 0 (length c.args.into.now) c.read_in_page.new.into back
       (omega (arith, split.front_len, split.back_len, empty)) (c.in_ok-read_in_page.ensures.read shown)
@@ -25,8 +24,7 @@ returns g c = record {
   read =
       on_ok_weaker c.read_in_page-2.result
       (λ reads shown.
-      let split = c.split_at_mut-front.ensures in
-      let old = c.args.outside.now in
+      let split = c.split_at_mut-front.ensures in let old = c.args.outside.now in
       let mid = c.read_in_page.new.outside in
       let asks = shows_asks g.W.Outside old mid c.in_ok-read_in_page.ensures.asks in
       in_two_pages (stands (held_of g.W.Outside old)) c.args.at (length c.split_at_mut-front.result.0.now) (length c.split_at_mut-front.result.1.now) (length c.args.into.now) c.read_in_page.new.into c.read_in_page-2.new.into

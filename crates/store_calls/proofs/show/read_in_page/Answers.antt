@@ -21,8 +21,7 @@ returns g c = record {
   asks = search rules;
   cause = search rules;
   read = λ shown.
-      let header = c.args.store.now.header in
-      let count = length c.args.into.now in
+      let header = c.args.store.now.header in let count = length c.args.into.now in
       let standing = stands (held_of g.W.Outside c.args.outside.now) in
       let same = c.directory-directory.ensures.value ∙ ap (λ (h : Header). h.directory) c.header.ensures in
       let size : c.from-2.result ≡ page_bytes header.directory.page =

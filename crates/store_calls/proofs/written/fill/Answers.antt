@@ -10,8 +10,7 @@ returns-in_err-write_sure g c = record {
   done = search rules;
   told = search rules;
   left = λ sure left seen was.
-      let G = g.W.Outside in
-      let image = c.args.image.now in
+      let G = g.W.Outside in let image = c.args.image.now in
       let (start, begun, since, torn) = c.in_err-write_sure.ensures.crash sure.honest sure.told left seen was in
       let zeros : start ≡ replicate 8 0 = leaves_held G c.args.outside.now sure start begun since ∙ c.requires.begun sure.told in
       tail_on_the_way image left start c.requires.named zeros torn;
@@ -53,9 +52,7 @@ returns g c = record {
       })
       c.write_sure-2.ensures.done;
   left = λ sure.
-      let G = g.W.Outside in
-      let image = c.args.image.now in
-      let mid = c.write_sure.new.outside in
+      let G = g.W.Outside in let image = c.args.image.now in let mid = c.write_sure.new.outside in
       let mid-sure = c.in_ok-write_sure.ensures.done.sure sure.honest sure.told in
       leaves_on G g.met.W.Outside.fewer_later c.args.outside.now mid c.write_sure-2.new.outside c.write_sure.ensures.calls.time c.write_sure-2.ensures.calls.time (λ (left seen : List ℕ). IsOnTheWay image left)
       (λ left seen was.

@@ -15,8 +15,7 @@ returns-in_err-write_sure g c = record {
   cause = search rules;
   done = search rules;
   torn = λ told.
-      let image = c.args.image.now in
-      let (there, torn) = c.in_err-write_sure.ensures.torn told in
+      let image = c.args.image.now in let (there, torn) = c.in_err-write_sure.ensures.torn told in
       (there, torn_wider (length image) _ _ (long_enough image c.requires.named) torn);
   crash = λ honest told left seen was.
       let image = c.args.image.now in
@@ -46,14 +45,11 @@ returns g c = record {
       })
       c.fill.ensures.done;
   torn = λ told.
-      let G = g.W.Outside in
-      let image = c.args.image.now in
+      let G = g.W.Outside in let image = c.args.image.now in
       let (there, few) = c.fill.ensures.told (mid-told g c told) in
       (there, subst (λ (held : List ℕ). Torn 0 (length image) held (held_of G c.fill.new.outside)) (sym (c.requires.empty told)) (torn_empty (length image) (held_of G c.fill.new.outside) few));
   crash = λ honest told.
-      let G = g.W.Outside in
-      let image = c.args.image.now in
-      let old = c.args.outside.now in
+      let G = g.W.Outside in let image = c.args.image.now in let old = c.args.outside.now in
       let mid = c.write_sure.new.outside in
       let none : G.held old ≡ Some [] = told_some (G.held old) told ∙ ap Some (c.requires.empty told) in
       let now = g.met.W.Outside.held_now old [] none in
@@ -64,8 +60,7 @@ returns g c = record {
       (start, begun, since, torn_wider (length image) start left (long_enough image c.requires.named) torn))
       (λ left seen was. ([], now.0, now.1, torn_empty (length image) left (c.fill.ensures.left (c.in_ok-write_sure.ensures.done.sure honest told) left seen was).few));
   whole = λ honest told first.
-      let G = g.W.Outside in
-      let image = c.args.image.now in
+      let G = g.W.Outside in let image = c.args.image.now in
       leaves_on G g.met.W.Outside.fewer_later c.args.outside.now c.write_sure.new.outside c.fill.new.outside c.write_sure.ensures.calls.time c.fill.ensures.calls.time
       (λ (left seen : List ℕ). IsNoStore left ⊎ (left ≡ image))
       (λ left seen was.

@@ -9,10 +9,7 @@ returns g c = record {
   untold = search rules;
   torn = grind (arith, common_steps);
   crash = λ honest told.
-      let G = g.W.Outside in
-      let old = c.args.outside.now in
-      let mid = c.write_at.new.self in
-      let at = c.args.at in
+      let G = g.W.Outside in let old = c.args.outside.now in let mid = c.write_at.new.self in let at = c.args.at in
       let count = length c.args.bytes.now in
       leaves_same G g.met.W.Outside.fewer_later old mid c.sync.new.self c.write_at.ensures.call.time c.sync.ensures.asks.call.time
       (λ (image seen : List ℕ). (start : List ℕ) × (begun : List ℕ) × G.left_since old (G.moment old) start begun × Torn at count start image)

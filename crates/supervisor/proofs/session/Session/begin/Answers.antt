@@ -7,8 +7,7 @@ use Rattle.supervisor.proofs.session.Session.begin.Goals as goal
 
 pub returns-clause-begun : goal.returns-clause-begun
 returns-clause-begun c =
-    let s = c.self.inside.state in
-    let begun = c.begin-begun in
+    let s = c.self.inside.state in let begun = c.begin-begun in
     subst (λ (old : SessionState). HasBegun ShowsDesk session_told c.args.program c.args.args old (with_activations s begun.new.self) begun.result) c.self.view_is (record {
       did = shown-begun s begun.new.self c.args.program c.args.args c.self.invariant begun.ensures.left c.sound.ensures begun.result begun.ensures.is_begin;
       shut = first_of (search rules, grind (arith, common_steps));

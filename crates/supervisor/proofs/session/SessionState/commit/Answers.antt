@@ -63,13 +63,10 @@ pub returns-in-Done : goal.returns-in-Done
 returns-in-Done g c = record {
   ends = first_of (search rules, grind (arith, common_steps));
   sound =
-      let s = c.args.self.now in
-      let seat = c.args.seat in
-      let entered = c.enter_order.new.self in
+      let s = c.args.self.now in let seat = c.args.seat in let entered = c.enter_order.new.self in
       let others = c.enter_order.ensures.others in
       let there : activity entered ≡ activity s = ap activity others ∙ c.in_default.ensures.kept in
-      let pool = c.commit-in-Done.new.self.reach.pool in
-      let order = c.enter_order.ensures.order in
+      let pool = c.commit-in-Done.new.self.reach.pool in let order = c.enter_order.ensures.order in
       sound-left s seat c.requires.sound c.requires.taken _ pool 1 c.requires.open
       (record {
         header = ap (λ (n : SessionState). n.store.header) others ∙ c.commit.ensures.header ∙ ap (λ (store : KeptStore). store.header) c.in_default.ensures.begun;
@@ -87,9 +84,7 @@ returns-in-Done g c = record {
       });
   writes = writes-more (g.W.Outside.writes c.args.outside.now) (g.W.Outside.writes c.commit.new.outside) 2 (c.commit.ensures.writes c.in-Done.is);
   told =
-      let s = c.args.self.now in
-      let seat = c.args.seat in
-      let entered = c.enter_order.new.self in
+      let s = c.args.self.now in let seat = c.args.seat in let entered = c.enter_order.new.self in
       let others = c.enter_order.ensures.others in
       let there : activity entered ≡ activity s = ap activity others ∙ c.in_default.ensures.kept in
       let pool = c.commit-in-Done.new.self.reach.pool in
@@ -107,28 +102,21 @@ returns-in-Done g c = record {
             (c.committed_in-committed.ensures.activation ∙ ap (λ (a : Activity). number_in a.seating seat) c.in_default.ensures.kept) refl;
       };
   stored =
-      let there = c.record.new.store in
-      let others = c.enter_order.ensures.others in
+      let there = c.record.new.store in let others = c.enter_order.ensures.others in
       record {
         lines = begun_of there.bank;
         kept = ap (λ (n : SessionState). n.store.bank) others ∙ c.in-Done.ensures.kept ∙ ap (λ (store : KeptStore). with_record (roomy store.bank)) c.in_default.ensures.begun;
       };
   went =
       λ begins sure over at.
-      let G = g.W.Outside in
-      let s = c.args.self.now in
-      let seat = c.args.seat in
-      let before = c.args.outside.now in
-      let after = c.commit.new.outside in
-      let entered = c.enter_order.new.self in
-      let others = c.enter_order.ensures.others in
-      let begun = c.in_default.ensures.begun in
+      let G = g.W.Outside in let s = c.args.self.now in let seat = c.args.seat in let before = c.args.outside.now in
+      let after = c.commit.new.outside in let entered = c.enter_order.new.self in
+      let others = c.enter_order.ensures.others in let begun = c.in_default.ensures.begun in
       let lines = begun_of c.record.new.store.bank in
       let gives = c.in_default.ensures.laid over.committed at.now at.follows at.at at.goes in
       let tracks = tracked G s seat c.requires.sound before after over at.now lines gives sure c.record.new.store begun in
       let there : activity entered ≡ activity s = ap activity others ∙ c.in_default.ensures.kept in
-      let done = c.commit.ensures.done c.in-Done.is tracks in
-      let pool = c.commit-in-Done.new.self.reach.pool in
+      let done = c.commit.ensures.done c.in-Done.is tracks in let pool = c.commit-in-Done.new.self.reach.pool in
       let shape = c.commit-in-Done.ensures.shape in
       let follows : KeepsDesk (activity entered) over.committed = subst (λ (a : Activity). KeepsDesk a over.committed) (sym there) at.follows in
       let commits = c.commit-in-Done.ensures.commits over.committed at.now follows
@@ -155,8 +143,7 @@ pub returns-in-Doubt : goal.returns-in-Doubt
 returns-in-Doubt g c = record {
   ends = first_of (search rules, grind (arith, common_steps));
   sound =
-      let s = c.args.self.now in
-      let entered = c.enter_order-in-Doubt.new.self in
+      let s = c.args.self.now in let entered = c.enter_order-in-Doubt.new.self in
       let others = c.enter_order-in-Doubt.ensures.others in
       let longer = ap length c.enter_order-in-Doubt.ensures.order ∙ length-append s.order.items (c.committed_in-committed.result ∷ []) in
       sound-closed c.args.self.now c.args.seat c.requires.sound c.requires.taken _
@@ -167,8 +154,7 @@ returns-in-Doubt g c = record {
       refl c.enter_order-in-Doubt.ensures.room c.requires.open (omega (arith, entered.order.ok.0, s.order.ok.0, longer));
   writes = writes-more (g.W.Outside.writes c.args.outside.now) (g.W.Outside.writes c.commit.new.outside) 0 c.commit.ensures.only.writes;
   told =
-      let entered = c.enter_order-in-Doubt.new.self in
-      let others = c.enter_order-in-Doubt.ensures.others in
+      let entered = c.enter_order-in-Doubt.new.self in let others = c.enter_order-in-Doubt.ensures.others in
       let there : activity entered ≡ activity c.args.self.now = ap activity others ∙ c.in_default.ensures.kept in
       let header = ap (λ (n : SessionState). n.store.header) others ∙ c.commit.ensures.header ∙ ap (λ (store : KeptStore). store.header) c.in_default.ensures.begun in
       record {
@@ -183,11 +169,8 @@ returns-in-Doubt g c = record {
         );
       };
   stored =
-      let G = g.W.Outside in
-      let s = c.args.self.now in
-      let there = c.record.new.store in
-      let entered = c.enter_order-in-Doubt.new.self in
-      let others = c.enter_order-in-Doubt.ensures.others in
+      let G = g.W.Outside in let s = c.args.self.now in let there = c.record.new.store in
+      let entered = c.enter_order-in-Doubt.new.self in let others = c.enter_order-in-Doubt.ensures.others in
       closes-now G s (record entered { closed = true }) c.args.seat Doubt there c.args.outside.now c.commit.new.outside c.requires.taken (ap activity others ∙ c.in_default.ensures.kept) c.in_default.ensures.begun c.in_default.ensures.record
       (record {
         only = c.commit.ensures.only;
@@ -198,12 +181,8 @@ returns-in-Doubt g c = record {
       });
   went =
       λ begins sure over at.
-      let G = g.W.Outside in
-      let s = c.args.self.now in
-      let seat = c.args.seat in
-      let before = c.args.outside.now in
-      let after = c.commit.new.outside in
-      let begun = c.in_default.ensures.begun in
+      let G = g.W.Outside in let s = c.args.self.now in let seat = c.args.seat in let before = c.args.outside.now in
+      let after = c.commit.new.outside in let begun = c.in_default.ensures.begun in
       let lines = begun_of c.record.new.store.bank in
       let gives = c.in_default.ensures.laid over.committed at.now at.follows at.at at.goes in
       let tracks = tracked G s seat c.requires.sound before after over at.now lines gives sure c.record.new.store begun in
@@ -224,9 +203,7 @@ returns-in-Unwritten g c = record {
   writes = writes-more (g.W.Outside.writes c.args.outside.now) (g.W.Outside.writes c.commit.new.outside) 0 c.commit.ensures.only.writes;
   told = first_of (search rules, grind (arith, common_steps));
   stored =
-      let G = g.W.Outside in
-      let s = c.args.self.now in
-      let there = c.record.new.store in
+      let G = g.W.Outside in let s = c.args.self.now in let there = c.record.new.store in
       closes-now G s _ c.args.seat Unwritten there c.args.outside.now c.commit.new.outside c.requires.taken c.in_default.ensures.kept c.in_default.ensures.begun c.in_default.ensures.record
       (record {
         only = c.commit.ensures.only;
@@ -237,12 +214,8 @@ returns-in-Unwritten g c = record {
       });
   went =
       λ begins sure over at.
-      let G = g.W.Outside in
-      let s = c.args.self.now in
-      let seat = c.args.seat in
-      let before = c.args.outside.now in
-      let after = c.commit.new.outside in
-      let begun = c.in_default.ensures.begun in
+      let G = g.W.Outside in let s = c.args.self.now in let seat = c.args.seat in let before = c.args.outside.now in
+      let after = c.commit.new.outside in let begun = c.in_default.ensures.begun in
       let lines = begun_of c.record.new.store.bank in
       let gives = c.in_default.ensures.laid over.committed at.now at.follows at.at at.goes in
       let tracks = tracked G s seat c.requires.sound before after over at.now lines gives sure c.record.new.store begun in

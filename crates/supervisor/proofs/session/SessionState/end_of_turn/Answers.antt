@@ -73,23 +73,19 @@ returns-in-Ok g c = record {
       commit-told c.args.activation c.args.limit _ (number_of s.store) c.commit.new.tally c.commit.result (omega (arith, c.in-Ok.ensures.ran, c.commit.ensures.ends.ran)) c.commit.ensures.ends.end c.commit.ensures.ends.journal
       (subst (λ (n : ℕ). TellsNumber n (number_of s.store) c.commit.result) (c.in-Ok.ensures.on.stays.number ∙ found) c.commit.ensures.ends.numbered);
   told =
-      let s = c.args.self.now in
-      let parts = c.run.ensures.keeps.parts in
+      let s = c.args.self.now in let parts = c.run.ensures.keeps.parts in
       let number = c.in-Ok.ensures.on.stays.number ∙ (seat-found (activity s).seating c.requires.sound.running.sound.seating c.args.activation c.in-Some.seat (sym c.seat_of.ensures ∙ c.in-Some.is)).1 in
       subst (λ (n : ℕ). ToldAfterEnd n c.commit.result (session_told s) (session_told c.commit.new.self)) number
       (subst (λ (told : Told). ToldAfterEnd (number_in c.run.new.self.seating c.in-Some.seat) c.commit.result told (session_told c.commit.new.self)) (told-stored s s.store c.run.new.self s.closed s.closed refl parts.programs parts.next refl) c.commit.ensures.told);
   stored =
-      let G = g.W.Outside in
-      let s = c.args.self.now in
+      let G = g.W.Outside in let s = c.args.self.now in
       let found = (seat-found (activity s).seating c.requires.sound.running.sound.seating c.args.activation c.in-Some.seat (sym c.seat_of.ensures ∙ c.in-Some.is)).1 in
       leaves-since G g.met.W.Outside.fewer_later c.args.activation s.store c.commit.new.self c.args.outside.now c.run.new.outside c.commit.new.outside c.run.ensures.keeps.asks c.in-Ok.ensures.on.calm c.commit.result
       (subst (λ (n : ℕ). LeavesStore G n c.commit.result s.store c.commit.new.self c.run.new.outside c.commit.new.outside) (c.in-Ok.ensures.on.stays.number ∙ found) c.commit.ensures.stored);
   failed = subst (λ (n : ℕ). FailsCounted (turn_fails c.commit.result) n (g.W.Outside.disk_faults c.commit.new.outside)) c.in-Ok.ensures.on.calm c.commit.ensures.ends.failed;
   went =
       λ sure over.
-      let G = g.W.Outside in
-      let s = c.args.self.now in
-      let before = c.args.outside.now in
+      let G = g.W.Outside in let s = c.args.self.now in let before = c.args.outside.now in
       let at = c.in-Ok.ensures.turned over.committed (order_of s) (store-over G s c.requires.sound before over sure) over.follows in
       let asks = c.run.ensures.keeps.asks in
       committed G g.met.W.Outside.fewer_later s c.requires.sound c.args.activation c.args.limit before c.run.new.outside sure over asks
