@@ -1,5 +1,5 @@
 -- A program begins.
-use Rattle.activations.proofs.Common.{range-long, ◌≡◌, refl, ℕ, ◌+◌, ◌-◌, ◌*◌, ◌%◌, ◌<◌, ◌≤◌, ◌==◌, ◌⊎◌, false, List, ◌++◌, length, map, replicate, slice_index, if◌then◌else◌, Option, Some, None, range_with_len, arith, ap, sym, ◌∙◌, subst, inl, inr, cases_lt, same_number_lists, length-overlaid, overlaid_before, overlaid_within, overlaid_behind, PageSize, Layout, byte_count, page_of, page_bytes, Pool, frame_at, with_bytes, private_frames, byte_in_frame, byte_over, bytes_over, private_bytes, Fits, frame-high, in-range, nat_tests, length-append, length-replicate, ne_eqb, or-false, ◌≢◌, zero, suc, nat_lt, Bool, true, [], ◌∷◌, All, slice_index_or, list_any, get_or-set_same, get_or-set_other, eqb-false, eq-eqb, both_ways, or_left, or_right, or_parts, length-map, length-set, map-append, get_or_read, All-from_get_or, list_any-append, FlatStore, has, no_lines, has-append, no_lines_of, Program, start, registers_of_program, Begun, Entry, nobody, Fine, AreAlike, AreMarked, IsState, requested, due_to, IsCurrent, IsOrderly, current-begun, first_entry, with_first, begins-consistent, refused-consistent, told-taken, Seat, IsSeating, sitter, number_in, newcomer, next_seat, all-has, none-free, some-free, has-at, few-taken, taken-below, kept-seated, apart-taken, is_line_marked, private_segment, Live, Activity, no_program, program_at, live_in, entry_for, entry_in, entries, number_under, authority_under, authority_told, store_over, desk_over, lines_held, locks_in, request_for, request_in, state_in, shown, given, started, begun_in, IsBegin, IsSound, IsSetUp, IsKept, KeepsDesk, absent_segment, over_all, state_for}
+use Rattle.activations.proofs.Common.{range-long, ◌≡◌, refl, ℕ, ◌+◌, ◌-◌, ◌*◌, ◌%◌, ◌<◌, ◌≤◌, ◌==◌, ◌⊎◌, false, List, ◌++◌, length, map, replicate, slice_index, if◌then◌else◌, Option, Some, None, range_with_len, arith, ap, sym, ◌∙◌, subst, inl, inr, cases_lt, same_number_lists, length-overlaid, overlaid_before, overlaid_within, overlaid_behind, PageSize, Layout, byte_count, page_of, page_bytes, Pool, frame_at, with_bytes, private_frames, byte_in_frame, byte_over, bytes_over, private_bytes, PoolFits, frame-high, in-range, nat_tests, length-append, length-replicate, ne_eqb, or-false, ◌≢◌, zero, suc, nat_lt, Bool, true, [], ◌∷◌, All, slice_index_or, list_any, get_or-set_same, get_or-set_other, eqb-false, eq-eqb, both_ways, or_left, or_right, or_parts, length-map, length-set, map-append, get_or_read, All-from_get_or, list_any-append, FlatStore, has, no_lines, has-append, no_lines_of, Program, start, registers_of_program, Begun, Active, nobody, Fine, AreAlike, AreWrittenMarked, IsState, requested, due_to, IsCurrent, IsOrderly, current-begun, first_entry, with_first, begins-consistent, refused-consistent, told-taken, Seat, IsSeating, sitter, number_in, newcomer, next_seat, all-has, none-free, some-free, has-at, few-taken, taken-below, kept-seated, apart-taken, is_line_marked, private_segment, Live, Activity, no_program, program_at, live_in, entry_for, entry_in, entries, number_under, authority_under, authority_told, store_over, desk_over, lines_held, locks_in, request_for, request_in, state_in, shown, number_given, started, begun_in, IsBegin, IsActivitySound, IsSetUp, IsBeside, KeepsDesk, absent_segment, over_all, state_for}
 use Rattle.std.proofs.lemmas.Option.{slice_get-get_or}
 use Rattle.flat_machine.specs.Serial.{Activation}
 use Rattle.desk.specs.declared.event.Event.TheVariants.{Begin}
@@ -19,7 +19,7 @@ first_bytes image = image ++ replicate (16384 - length image) 0
 long-first : (image : List ℕ) → length image ≤ 16384 → length (first_bytes image) ≡ 16384
 long-first image few = length-append image (replicate (16384 - length image) 0) ∙ ap (λ (n : ℕ). length image + n) (length-replicate (16384 - length image) 0) ∙ omega (arith, few)
 
-module _ (directory : Layout) (pool : Pool) (fits : Fits directory pool) (seat : ℕ) (below : seat < 16) (image : List ℕ) (few : length image ≤ 16384) where
+module _ (directory : Layout) (pool : Pool) (fits : PoolFits directory pool) (seat : ℕ) (below : seat < 16) (image : List ℕ) (few : length image ≤ 16384) where
   abbrev pub filled : Pool
   filled = with_bytes pool (seat * 16384) (first_bytes image)
 
@@ -74,7 +74,7 @@ module _ (directory : Layout) (pool : Pool) (fits : Fits directory pool) (seat :
 pub all-of : (P : ℕ → Type 0) (xs : List ℕ) → ((x : ℕ) → has xs x ≡ true → P x) → All P xs
 all-of P xs each = All-from_get_or P xs 0 (λ k within. each (slice_index_or xs k 0) (has-at xs k 0 within))
 
-map-same : (f g : ℕ → Entry) (xs : List ℕ) → ((x : ℕ) → has xs x ≡ true → f x ≡ g x) → map f xs ≡ map g xs
+map-same : (f g : ℕ → Active) (xs : List ℕ) → ((x : ℕ) → has xs x ≡ true → f x ≡ g x) → map f xs ≡ map g xs
 map-same f g [] same = refl
 map-same f g (x ∷ xs) same = λ i. same x (or_left (x == x) (has xs x) (eq-eqb x x refl)) i ∷ map-same f g xs (λ y inside. same y (or_right (x == y) (has xs y) inside)) i
 
@@ -86,11 +86,11 @@ held-none pages = flat-alike (no_lines_of pages) (lines_held (no_lines_of pages)
 })
 
 -- a number that is given to nobody
-pub sound-given : (a : Activity) → IsSound a → IsSound (given a)
+pub sound-given : (a : Activity) → IsActivitySound a → IsActivitySound (number_given a)
 sound-given a sound = sound-beside a (a.next + 1) a.reach.pool a.reach.entries a.reach.registers a.reach.runner sound
     (all-of (λ seat. number_in a.seating seat < a.next + 1) a.seating.taken (λ seat inside. let was = all-has (λ seat. number_in a.seating seat < a.next) a.seating.taken seat sound.numbers inside in omega (arith, was))) sound.entries sound.identified
 
-pub follows-given : (a : Activity) (committed : List ℕ) → KeepsDesk a committed → KeepsDesk (given a) committed
+pub follows-given : (a : Activity) (committed : List ℕ) → KeepsDesk a committed → KeepsDesk (number_given a) committed
 follows-given a committed follows = record {
   orderly = refused-consistent (desk_over a committed []) follows.orderly;
   kept = record {
@@ -105,7 +105,7 @@ follows-given a committed follows = record {
 }
 
 -- A program takes a free seat.
-module _ (a : Activity) (program : ℕ) (args : List ℕ) (seat : ℕ) (sound : IsSound a) (below : seat < 16) (free : has a.seating.taken seat ≡ false) where
+module _ (a : Activity) (program : ℕ) (args : List ℕ) (seat : ℕ) (sound : IsActivitySound a) (below : seat < 16) (free : has a.seating.taken seat ≡ false) where
   abbrev new : Activity
   new = begun_in a program args seat
 
@@ -154,7 +154,7 @@ module _ (a : Activity) (program : ℕ) (args : List ℕ) (seat : ℕ) (sound : 
   live-begun : live_in new seat ≡ started a program args seat
   live-begun = live-there a.live seat (started a program args seat) (omega (arith, sound.live, below))
 
-  pub sound-begun : program < length a.programs → IsSound new
+  pub sound-begun : program < length a.programs → IsActivitySound new
   sound-begun known = record {
     seating = kept;
     seats = record { apart = λ at other inside there. apart-taken new.seating kept at other inside there };
@@ -195,7 +195,7 @@ module _ (a : Activity) (program : ℕ) (args : List ℕ) (seat : ℕ) (sound : 
           let live_is : live_in new at ≡ live_in a at = live-other a.live seat (started a program args seat) at differs in record {
             program = subst (λ (s : Seat). s.program < length a.programs) (sym sitter_is) was.program;
             begun = get_or-set_other a.reach.begun seat at true false (eqb-false at seat differs) ∙ was.begun;
-            registers = ap (λ (l : Live). l.registers) live_is ∙ was.registers ∙ ap (λ (e : Entry). registers_of_program e.runs.program a.reach.directory (private_segment at)) (sym (entry-old at differs));
+            registers = ap (λ (l : Live). l.registers) live_is ∙ was.registers ∙ ap (λ (e : Active). registers_of_program e.runs.program a.reach.directory (private_segment at)) (sym (entry-old at differs));
             printed = ap (λ (l : Live). length l.out) live_is ∙ was.printed ∙ ap (λ (l : Live). l.cpu.printed) (sym live_is);
             few = subst (λ (l : Live). length l.out ≤ 4096) (sym live_is) was.few;
           }
@@ -204,20 +204,20 @@ module _ (a : Activity) (program : ℕ) (args : List ℕ) (seat : ℕ) (sound : 
       set-up-last = record {
         program = subst (λ (s : Seat). s.program < length a.programs) (sym sits) known;
         begun = get_or-set_same a.reach.begun seat true false (omega (arith, sound.begun, below));
-        registers = ap (λ (l : Live). l.registers) live-begun ∙ ap (λ (e : Entry). registers_of_program e.runs.program a.reach.directory (private_segment seat)) (sym entry-last);
+        registers = ap (λ (l : Live). l.registers) live-begun ∙ ap (λ (e : Active). registers_of_program e.runs.program a.reach.directory (private_segment seat)) (sym entry-last);
         printed = ap (λ (l : Live). length l.out) live-begun ∙ ap (λ (l : Live). l.cpu.printed) (sym live-begun);
         few = subst (λ (l : Live). length l.out ≤ 4096) (sym live-begun) (omega arith);
       }
 
   -- What it shows.
-  module _ (committed : List ℕ) (follows : KeepsDesk a committed) (fits : Fits a.reach.directory a.reach.pool) (known : program < length a.programs) where
+  module _ (committed : List ℕ) (follows : KeepsDesk a committed) (fits : PoolFits a.reach.directory a.reach.pool) (known : program < length a.programs) where
     abbrev store : FlatStore
     store = store_over a committed
 
     abbrev code : Program
     code = program_at a.programs program
 
-    abbrev last : Entry
+    abbrev last : Active
     last = first_entry a.next runs
 
     module _ (room : length a.seating.taken < 16) (present : absent_segment a.reach.directory code.windows ≡ None) where
@@ -226,7 +226,7 @@ module _ (a : Activity) (program : ℕ) (args : List ℕ) (seat : ℕ) (sound : 
           begins-consistent (desk_over a committed []) runs follows.orderly (let long : length (entries a) ≡ length a.seating.taken = length-map a.seating.taken (entry_in a) in omega (arith, room, long)) present
 
       state-last : IsState store (entry_in new seat) (state_in new seat)
-      state-last = subst (λ (e : Entry). IsState store e (state_in new seat)) (sym entry-last)
+      state-last = subst (λ (e : Active). IsState store e (state_in new seat)) (sym entry-last)
           (record {
             bytes = committed;
             at = (λ i. Some (record (start code args store) { private = sym (private-there a.reach.directory a.reach.pool fits seat below code.image code.image_fits) i }))
@@ -241,30 +241,30 @@ module _ (a : Activity) (program : ℕ) (args : List ℕ) (seat : ℕ) (sound : 
       by_seat : {P : ℕ → Type 0} → P seat → ((at : ℕ) → has a.seating.taken at ≡ true → P at) → (at : ℕ) → has new.seating.taken at ≡ true → P at
       by_seat {P} this others at inside = elim (seated-old at inside) [ inl old ↦ others at old | inr it ↦ subst P it this ]
 
-      kept-begun : IsKept new committed
+      kept-begun : IsBeside new committed
       kept-begun = record {
         long = follows.kept.long;
         held = by_seat {P = λ at. AreAlike (locks_in new at) (due_to store (entry_in new at))}
-            (subst (λ (e : Entry). AreAlike (locks_in new seat) (due_to store e)) (sym entry-last)
+            (subst (λ (e : Active). AreAlike (locks_in new seat) (due_to store e)) (sym entry-last)
             (subst (λ (pages : List (List ℕ × List ℕ)). AreAlike (lines_held pages) no_lines) (sym (sound.seating.free seat below free)) (held-none a.seating.holding.pages)))
-            (λ at old. subst (λ (e : Entry). AreAlike (locks_in a at) (due_to store e)) (sym (entry-old at (elsewhere at old))) (follows.kept.held at old));
+            (λ at old. subst (λ (e : Active). AreAlike (locks_in a at) (due_to store e)) (sym (entry-old at (elsewhere at old))) (follows.kept.held at old));
         asked = by_seat {P = λ at. (entry_in new at).waiting ≡ true → AreAlike (request_in new at) (requested store (entry_in new at))}
-            (λ waits. absurd (both_ways (entry_in new seat).waiting (ap (λ (e : Entry). e.waiting) entry-last) waits))
+            (λ waits. absurd (both_ways (entry_in new seat).waiting (ap (λ (e : Active). e.waiting) entry-last) waits))
             (λ at old waits.
-            subst (λ (e : Entry). AreAlike (request_in new at) (requested store e)) (sym (entry-old at (elsewhere at old)))
+            subst (λ (e : Active). AreAlike (request_in new at) (requested store e)) (sym (entry-old at (elsewhere at old)))
             (subst (λ (s : Seat). AreAlike (request_for s) (requested store (entry_in a at))) (sym (sitter-other a.seating seat who at (elsewhere at old)))
-            (follows.kept.asked at old (sym (ap (λ (e : Entry). e.waiting) (entry-old at (elsewhere at old))) ∙ waits))));
+            (follows.kept.asked at old (sym (ap (λ (e : Active). e.waiting) (entry-old at (elsewhere at old))) ∙ waits))));
         stand = by_seat {P = λ at. IsState store (entry_in new at) (state_in new at)} state-last
-            (λ at old. subst (λ (e : Entry). IsState store e (state_in new at)) (sym (entry-old at (elsewhere at old))) (subst (IsState store (entry_in a at)) (state-old at old) (follows.kept.stand at old)));
-        is_current = subst (λ (these : List Entry). IsCurrent store these (shown new committed)) (sym entries-begun)
+            (λ at old. subst (λ (e : Active). IsState store e (state_in new at)) (sym (entry-old at (elsewhere at old))) (subst (IsState store (entry_in a at)) (state-old at old) (follows.kept.stand at old)));
+        is_current = subst (λ (these : List Active). IsCurrent store these (shown new committed)) (sym entries-begun)
             (subst (IsCurrent store (entries a ++ last ∷ [])) (sym (shown-same a.reach.directory a.reach.pool fits seat below code.image code.image_fits committed))
             (current-begun store a.most_lines a.next (entries a) follows.orderly.active (shown a committed) last refl orderly-begun.active follows.kept.is_current));
         marked =
-            subst (λ (these : List Entry). AreMarked store these (is_line_marked new.reach.pool)) (sym entries-begun)
+            subst (λ (these : List Active). AreWrittenMarked store these (is_line_marked new.reach.pool)) (sym entries-begun)
             (record {
               is = λ line.
                   follows.kept.marked.is line
-                  ∙ sym (list_any-append (λ (one : Entry). has (due_to store one).writes line) (entries a) (last ∷ []) ∙ or-false (list_any (λ (one : Entry). has (due_to store one).writes line) (entries a)));
+                  ∙ sym (list_any-append (λ (one : Active). has (due_to store one).writes line) (entries a) (last ∷ []) ∙ or-false (list_any (λ (one : Active). has (due_to store one).writes line) (entries a)));
             });
         clean = λ place frame within there unmarked.
             store-frame a.reach.directory a.reach.pool fits seat below code.image code.image_fits place frame there ∙ follows.kept.clean place frame within there unmarked;
@@ -274,32 +274,32 @@ module _ (a : Activity) (program : ℕ) (args : List ℕ) (seat : ℕ) (sound : 
       follows-begun = record { orderly = subst IsOrderly (sym (desk-begun committed [])) orderly-begun; kept = kept-begun }
 
 -- the next seat is free, and there is none where sixteen are taken
-none-next : (a : Activity) → IsSound a → next_seat a.seating ≡ None → 16 ≤ length a.seating.taken
+none-next : (a : Activity) → IsActivitySound a → next_seat a.seating ≡ None → 16 ≤ length a.seating.taken
 unfolding next_seat
 none-next a sound none = none-free (number_in a.seating) a.seating.taken sound.seating.ascending none
 
-pub some-next : (a : Activity) (seat : ℕ) → IsSound a → next_seat a.seating ≡ Some seat → (seat < 16) × (has a.seating.taken seat ≡ false) × (length a.seating.taken < 16)
+pub some-next : (a : Activity) (seat : ℕ) → IsActivitySound a → next_seat a.seating ≡ Some seat → (seat < 16) × (has a.seating.taken seat ≡ false) × (length a.seating.taken < 16)
 unfolding next_seat
 some-next a seat sound found = some-free (number_in a.seating) a.seating.taken seat sound.seating.among sound.seating.ascending found
 
 -- whatever a begin comes to
-module _ (a : Activity) (program : ℕ) (args : List ℕ) (sound : IsSound a) (known : program < length a.programs) where
+module _ (a : Activity) (program : ℕ) (args : List ℕ) (sound : IsActivitySound a) (known : program < length a.programs) where
   abbrev this : Activation
   this = record { program = program_at a.programs program; args = args }
 
-  pub sound-begins : IsSound (begun.begins a program args).1
+  pub sound-begins : IsActivitySound (begun.begin_answer a program args).1
   sound-begins = by_cases (next_seat a.seating) refl (absent_segment a.reach.directory (program_at a.programs program).windows)
     where
-      by_cases : (free : Option ℕ) → next_seat a.seating ≡ free → (absent : Option ℕ) → IsSound (begun.begins_by free absent a program args).1
+      by_cases : (free : Option ℕ) → next_seat a.seating ≡ free → (absent : Option ℕ) → IsActivitySound (begun.begins_by free absent a program args).1
       by_cases None e absent = sound-given a sound
       by_cases (Some seat) e (Some segment) = sound-given a sound
       by_cases (Some seat) e None = let (below, free, room) = some-next a seat sound e in sound-begun a program args seat sound below free known
 
-  module _ (committed : List ℕ) (follows : KeepsDesk a committed) (fits : Fits a.reach.directory a.reach.pool) where
+  module _ (committed : List ℕ) (follows : KeepsDesk a committed) (fits : PoolFits a.reach.directory a.reach.pool) where
     begin-is : (order : List (ℕ × ℕ)) → step a.programs (Begin program args) Fine (desk_over a committed order) ≡ begin program this (desk_over a committed order)
     begin-is order = ap (λ (found : Option Program). begin_if program args found (desk_over a committed order)) (slice_get-get_or a.programs program no_program known)
 
-    pub is-begin : IsBegin a (begun.begins a program args).1 program args (begun.begins a program args).0 committed
+    pub is-begin : IsBegin a (begun.begin_answer a program args).1 program args (begun.begin_answer a program args).0 committed
     is-begin = by_cases (next_seat a.seating) refl (absent_segment a.reach.directory (program_at a.programs program).windows) refl
       where
         with_room : (order : List (ℕ × ℕ)) (absent : Option ℕ) → length a.seating.taken < 16 → absent_segment a.reach.directory (program_at a.programs program).windows ≡ absent
@@ -308,7 +308,7 @@ module _ (a : Activity) (program : ℕ) (args : List ℕ) (sound : IsSound a) (k
             let some : nat_lt (length (entries a)) 16 ≡ true = grind (arith, nat_tests, room, length-map a.seating.taken (entry_in a)) in
             begin-is order
             ∙ ap (λ (b : Bool). if b then begins (absent_segment a.reach.directory (program_at a.programs program).windows) program this (desk_over a committed order)
-            else record { desk = desk_over (given a) committed order; happening = Busy a.next program }) some
+            else record { desk = desk_over (number_given a) committed order; happening = Busy a.next program }) some
             ∙ ap (λ (found : Option ℕ). begins found program this (desk_over a committed order)) e
 
         by_cases : (free : Option ℕ) → next_seat a.seating ≡ free → (absent : Option ℕ) → absent_segment a.reach.directory (program_at a.programs program).windows ≡ absent
@@ -319,7 +319,7 @@ module _ (a : Activity) (program : ℕ) (args : List ℕ) (sound : IsSound a) (k
               let full : nat_lt (length (entries a)) 16 ≡ false = grind (arith, nat_tests, none, length-map a.seating.taken (entry_in a)) in
               begin-is order
               ∙ ap (λ (b : Bool). if b then begins (absent_segment a.reach.directory (program_at a.programs program).windows) program this (desk_over a committed order)
-              else record { desk = desk_over (given a) committed order; happening = Busy a.next program }) full;
+              else record { desk = desk_over (number_given a) committed order; happening = Busy a.next program }) full;
           follows = follows-given a committed follows;
         }
         by_cases (Some seat) e (Some segment) lacks =
@@ -334,7 +334,7 @@ module _ (a : Activity) (program : ℕ) (args : List ℕ) (sound : IsSound a) (k
             }
 
 -- Which of the three it comes to.
-module _ (a : Activity) (program : ℕ) (args : List ℕ) (sound : IsSound a) where
+module _ (a : Activity) (program : ℕ) (args : List ℕ) (sound : IsActivitySound a) where
   next-full : 16 ≤ length a.seating.taken → next_seat a.seating ≡ None
   next-full full = by_seat (next_seat a.seating) refl
     where
@@ -342,30 +342,30 @@ module _ (a : Activity) (program : ℕ) (args : List ℕ) (sound : IsSound a) wh
       by_seat None e = refl
       by_seat (Some seat) e = absurd (let room = (some-next a seat sound e).2 in omega (arith, room, full))
 
-  pub begins-full : 16 ≤ length a.seating.taken → begun.begins a program args ≡ (answer.Busy a.next, given a)
+  pub begins-full : 16 ≤ length a.seating.taken → begun.begin_answer a program args ≡ (answer.Busy a.next, number_given a)
   begins-full full = ap (λ (free : Option ℕ). begun.begins_by free (absent_segment a.reach.directory (program_at a.programs program).windows) a program args) (next-full full)
 
   pub begins-refused : (segment : ℕ) → length a.seating.taken < 16 → absent_segment a.reach.directory (program_at a.programs program).windows ≡ Some segment
-      → begun.begins a program args ≡ (answer.NoSegment a.next segment, given a)
+      → begun.begin_answer a program args ≡ (answer.NoSegment a.next segment, number_given a)
   begins-refused segment room lacks = grind (arith, none-next, sound, room, lacks)
 
   pub begins-started : (seat : ℕ) → next_seat a.seating ≡ Some seat → absent_segment a.reach.directory (program_at a.programs program).windows ≡ None
-      → begun.begins a program args ≡ (answer.Started a.next, begun_in a program args seat)
+      → begun.begin_answer a program args ≡ (answer.Started a.next, begun_in a program args seat)
   begins-started seat free present = λ i. begun.begins_by (free i) (present i) a program args
 
   -- so it is the desk's
-  pub begin-goes : (now : Activity) (told : Begun) → program < length a.programs → Fits a.reach.directory a.reach.pool
-      → told ≡ (begun.begins a program args).0 → now ≡ (begun.begins a program args).1 → (committed : List ℕ) → KeepsDesk a committed → IsBegin a now program args told committed
+  pub begin-goes : (now : Activity) (told : Begun) → program < length a.programs → PoolFits a.reach.directory a.reach.pool
+      → told ≡ (begun.begin_answer a program args).0 → now ≡ (begun.begin_answer a program args).1 → (committed : List ℕ) → KeepsDesk a committed → IsBegin a now program args told committed
   begin-goes now told known fits is_told is_new committed follows =
       subst (λ (n : Activity). IsBegin a n program args told committed) (sym is_new)
-      (subst (λ (t : Begun). IsBegin a (begun.begins a program args).1 program args t committed) (sym is_told) (is-begin a program args sound known committed follows fits))
+      (subst (λ (t : Begun). IsBegin a (begun.begin_answer a program args).1 program args t committed) (sym is_told) (is-begin a program args sound known committed follows fits))
 
 -- what a begin says of what it answers and leaves
-pub begun-so : (a : Activity) (program : ℕ) (args : List ℕ) (told : Begun) (now : Activity) → IsSound a → program < length a.programs → Fits a.reach.directory a.reach.pool → begun.begins a program args ≡ (told, now)
+pub begun-so : (a : Activity) (program : ℕ) (args : List ℕ) (told : Begun) (now : Activity) → IsActivitySound a → program < length a.programs → PoolFits a.reach.directory a.reach.pool → begun.begin_answer a program args ≡ (told, now)
     → begun.BeginsSo a program args told now
 begun-so a program args told now sound known fits is =
-    let answer : told ≡ (begun.begins a program args).0 = sym (ap (λ (b : Begun × Activity). b.0) is) in
-    let left : now ≡ (begun.begins a program args).1 = sym (ap (λ (b : Begun × Activity). b.1) is) in
+    let answer : told ≡ (begun.begin_answer a program args).0 = sym (ap (λ (b : Begun × Activity). b.0) is) in
+    let left : now ≡ (begun.begin_answer a program args).1 = sym (ap (λ (b : Begun × Activity). b.1) is) in
     record { answer = answer; left = left; is_begin = begin-goes a program args sound now told known fits answer left }
 
 -- the program that was read at a place
@@ -374,11 +374,11 @@ is-code programs place at code known same is =
     get_or_read programs at code (subst (λ (n : ℕ). n < length programs) (sym same) known) is no_program ∙ ap (program_at programs) same
 
 -- a seat that isn't taken isn't begun
-pub is-fresh : (a : Activity) (seat : ℕ) → IsSound a → next_seat a.seating ≡ Some seat → slice_index_or a.reach.begun seat true ≡ false
+pub is-fresh : (a : Activity) (seat : ℕ) → IsActivitySound a → next_seat a.seating ≡ Some seat → slice_index_or a.reach.begun seat true ≡ false
 is-fresh a seat sound found =
     let (below, free, room) = some-next a seat sound found in
     sym (get_or_read a.reach.begun seat false (omega (arith, below, sound.begun)) (sym (sound.free seat free)) true)
 
 -- not all sixteen are taken
-pub has-room : (a : Activity) → IsSound a → length a.seating.taken ≢ 16 → length a.seating.taken < 16
+pub has-room : (a : Activity) → IsActivitySound a → length a.seating.taken ≢ 16 → length a.seating.taken < 16
 has-room a sound apart = let few = few-taken a.seating sound.seating in omega (arith, few, apart)

@@ -1,22 +1,22 @@
 -- A contest, round by round: each cycle that a waiting seat closes is broken.
-use Rattle.activations.proofs.Common.{◌≡◌, refl, ℕ, ◌==◌, ◌&&◌, not, Bool, true, List, filter, map, Option, Some, None, is_some, option_map_or, ap, sym, ◌∙◌, has, Lines, no_lines, conflicts, shown_cycle, Request, Want, lines_wanted, of_seat, Entry, AreAlike, by_number, kept_conflict, kept_waits, alike-same, conflicts-alike, filter-alike, conflicts-seats, waits-seats, sitter, number_in, numbers, holders, seat_waits, cycle_of, AreOfPage, holders-flat, waits-flat, waits-none, cycle-numbers, Activity, entry_in, entries, locks_in, request_in, IsSound, map-map, false, [], ◌∷◌, find, option_map, subst, victim_of, Plain, Pool, Word, Counts, Attempt, Turning, Over, Victim, Waits, contest_ends, IsOrderly, KeepsPages, contest, IsUnderWay, marked, with_cycle, told-found, at-number, IsContesting, contesting-victim, contesting-turn, contesting-loses, contesting-consistent, contesting-ready, contesting-waits, contesting-gets, seat_of, desk_over, state_in, shown, KeepsDesk, IsContested, ComesToEnd, IsFree, WereRefused, rolled, RollsBack, Grant, Desk, nil_from_length, map-append, ne_eqb, ◌<◌, ◌++◌, length, IsSome, arith, eqb-true, eq-eqb, both_ways, has-filter, seat-found, Contests, Cycle, nat_tests, FromContest, IsRolledBack}
+use Rattle.activations.proofs.Common.{◌≡◌, refl, ℕ, ◌==◌, ◌&&◌, not, Bool, true, List, filter, map, Option, Some, None, is_some, option_map_or, ap, sym, ◌∙◌, has, Lines, no_lines, conflicts, shown_cycle, Request, Want, lines_wanted, of_seat, Active, AreAlike, by_number, kept_conflict, kept_waits, alike-same, conflicts-alike, filter-alike, conflicts-seats, waits-seats, sitter, number_in, numbers_seated, holders, seat_waits, cycle_of, AreOfPage, holders-flat, waits-flat, waits-none, cycle-numbers, Activity, entry_in, entries, locks_in, request_in, IsActivitySound, map-map, false, [], ◌∷◌, find, option_map, subst, victim_of, Plain, Pool, DiskWord, Counts, InFlight, Turning, Over, Victim, Waits, contest_ends, IsOrderly, KeepsPages, contest, IsUnderWay, marked_waiting, with_cycle, told-found, at-number, IsContesting, contesting-victim, contesting-turn, contesting-loses, contesting-consistent, contesting-ready, contesting-waits, contesting-gets, seat_of, desk_over, state_in, shown, KeepsDesk, IsContested, ComesToEnd, IsFree, WereRefused, rolled, RollsBack, Grant, Desk, nil_from_length, map-append, ne_eqb, ◌<◌, ◌++◌, length, IsSome, arith, eqb-true, eq-eqb, both_ways, has-filter, seat-found, Contests, Cycle, nat_tests, FromContest, IsRolledBack}
 use Rattle.activations.proofs.HoldingLemmas.{held-flat}
 use Rattle.activations.proofs.CommitLemmas.{told-kept}
 use Rattle.activations.proofs.KeptLemmas.{no-more, some-holders}
 
 -- the numbers of the entries are those of the seats
-pub numbers-told : (a : Activity) → map (λ (entry : Entry). entry.number) (entries a) ≡ numbers a.seating
-numbers-told a = map-map (λ (entry : Entry). entry.number) (entry_in a) a.seating.taken
+pub numbers-told : (a : Activity) → map (λ (entry : Active). entry.number) (entries a) ≡ numbers_seated a.seating
+numbers-told a = map-map (λ (entry : Active). entry.number) (entry_in a) a.seating.taken
 
-module _ (a : Activity) (sound : IsSound a) where
+module _ (a : Activity) (sound : IsActivitySound a) where
   -- the holders that a request of a seat conflicts with are those that the tables tell
   pub holders-told : (seat : ℕ) (wants : List Want) (asked : Lines) → has a.seating.taken seat ≡ true → AreOfPage wants → AreAlike asked (lines_wanted wants)
       → holders a.seating seat wants
-      ≡ map (λ (other : Entry). other.number) (filter (kept_conflict asked (by_number a.seating.taken (entry_in a) (locks_in a) no_lines) (number_in a.seating seat)) (entries a))
+      ≡ map (λ (other : Active). other.number) (filter (kept_conflict asked (by_number a.seating.taken (entry_in a) (locks_in a) no_lines) (number_in a.seating seat)) (entries a))
   holders-told seat wants asked taken sets alike =
       holders-flat a.seating sound.seating (locks_in a) (λ at inside. held-flat (of_seat a.seating.holding at) (sound.lines at)) seat wants sets
       ∙ sym (conflicts-seats a.seating.taken (entry_in a) sound.seats (locks_in a) (request_in a) (lines_wanted wants) seat taken)
-      ∙ ap (map (λ (other : Entry). other.number))
+      ∙ ap (map (λ (other : Active). other.number))
       (filter-alike
       (kept_conflict (lines_wanted wants) (by_number a.seating.taken (entry_in a) (locks_in a) no_lines) (number_in a.seating seat))
       (kept_conflict asked (by_number a.seating.taken (entry_in a) (locks_in a) no_lines) (number_in a.seating seat)) (entries a)
@@ -41,7 +41,7 @@ module _ (a : Activity) (sound : IsSound a) where
   -- and the shown cycle
   pub cycle-told : (seat : ℕ) → has a.seating.taken seat ≡ true → cycle_of a.seating seat
       ≡ shown_cycle (kept_waits (by_number a.seating.taken (entry_in a) (locks_in a) no_lines) (by_number a.seating.taken (entry_in a) (request_in a) no_lines) (entries a))
-      (map (λ (entry : Entry). entry.number) (entries a)) (number_in a.seating seat)
+      (map (λ (entry : Active). entry.number) (entries a)) (number_in a.seating seat)
   cycle-told seat taken = cycle-numbers a.seating sound.seating
       (kept_waits (by_number a.seating.taken (entry_in a) (locks_in a) no_lines) (by_number a.seating.taken (entry_in a) (request_in a) no_lines) (entries a)) seat
       (λ from to here there. waits-told from to here there) taken
@@ -53,7 +53,7 @@ pub orderly-other : (a : Activity) (committed : List ℕ) (order : List (ℕ × 
 orderly-other a committed order is = record { whole = is.whole; few = is.few; active = is.active; held = is.held; no_cycle = is.no_cycle }
 
 -- what was refused once was so also where the attempt's own pages are still its own
-pub refused-since : (attempt : Attempt) (refused : List ℕ) (first now : Desk) → WereRefused attempt refused first → KeepsPages attempt.entry.number first.authority now.authority → WereRefused attempt refused now
+pub refused-since : (attempt : InFlight) (refused : List ℕ) (first now : Desk) → WereRefused attempt refused first → KeepsPages attempt.entry.number first.authority now.authority → WereRefused attempt refused now
 refused-since attempt refused first now were keeps = record {
   once = were.once;
   are = were.are;
@@ -70,8 +70,8 @@ requests_told a = by_number a.seating.taken (entry_in a) (request_in a) no_lines
 abbrev pub states_told : Activity → ℕ → Plain
 states_told a = by_number a.seating.taken (entry_in a) (state_in a) (state_in a 16)
 
-module _ (begins : Word → Turning) (attempt : Attempt) (refused : List ℕ) (first : Desk) (a : Activity) (seat : ℕ) (committed : List ℕ) (order : List (ℕ × ℕ)) (counts : Counts)
-    (sound : IsSound a) (taken : has a.seating.taken seat ≡ true) (number : attempt.entry.number ≡ number_in a.seating seat)
+module _ (begins : DiskWord → Turning) (attempt : InFlight) (refused : List ℕ) (first : Desk) (a : Activity) (seat : ℕ) (committed : List ℕ) (order : List (ℕ × ℕ)) (counts : Counts)
+    (sound : IsActivitySound a) (taken : has a.seating.taken seat ≡ true) (number : attempt.entry.number ≡ number_in a.seating seat)
     (is : IsContested begins attempt refused first a committed order counts) where
   abbrev desk : Desk
   desk = desk_over a committed order
@@ -80,9 +80,9 @@ module _ (begins : Word → Turning) (attempt : Attempt) (refused : List ℕ) (f
   told = record { comes = is.comes; ready = is.ready; under_way = is.under_way; told = told-kept a committed sound is.kept }
 
   cycle-is : (cycle : Option (List ℕ)) → cycle_of a.seating seat ≡ cycle
-      → shown_cycle (kept_waits (locks_told a) (requests_told a) (entries a)) (map (λ (entry : Entry). entry.number) (entries a)) attempt.entry.number ≡ cycle
+      → shown_cycle (kept_waits (locks_told a) (requests_told a) (entries a)) (map (λ (entry : Active). entry.number) (entries a)) attempt.entry.number ≡ cycle
   cycle-is cycle found =
-      ap (shown_cycle (kept_waits (locks_told a) (requests_told a) (entries a)) (map (λ (entry : Entry). entry.number) (entries a))) number
+      ap (shown_cycle (kept_waits (locks_told a) (requests_told a) (entries a)) (map (λ (entry : Active). entry.number) (entries a))) number
       ∙ sym (cycle-told a sound seat taken) ∙ found
 
   -- the victim of a cycle sits somewhere
@@ -91,11 +91,11 @@ module _ (begins : Word → Turning) (attempt : Attempt) (refused : List ℕ) (f
       let (victim, there) = contesting-victim begins attempt refused first desk counts (locks_told a) (requests_told a) (states_told a) (shown a committed) told cycle (cycle-is (Some cycle) found) in
       some-none (sym there ∙ told-found a.seating.taken (entry_in a) (victim_of cycle) ∙ ap (option_map (entry_in a)) none)
     where
-      some-none : {e : Entry} → Some e ≡ None → ⊥
+      some-none : {e : Active} → Some e ≡ None → ⊥
       some-none is = absurd (cc)
 
   module _ (cycle : List ℕ) (found : cycle_of a.seating seat ≡ Some cycle) (victim : ℕ) (sits : seat_of a.seating (victim_of cycle) ≡ Some victim) where
-    victim-is : find (λ (other : Entry). other.number == victim_of cycle) (entries a) ≡ Some (entry_in a victim)
+    victim-is : find (λ (other : Active). other.number == victim_of cycle) (entries a) ≡ Some (entry_in a victim)
     victim-is = told-found a.seating.taken (entry_in a) (victim_of cycle) ∙ ap (option_map (entry_in a)) sits
 
     module _ (pool : Pool) (rolls : RollsBack a victim pool committed) where
@@ -107,7 +107,7 @@ module _ (begins : Word → Turning) (attempt : Attempt) (refused : List ℕ) (f
             comes = λ word reads. turn.comes word reads ∙ ap (λ (d : Desk). contest_ends word attempt refused (contest attempt.entry.number d (with_cycle counts cycle))) (sym (rolls.desk order));
             ready = is.ready;
             were = is.were;
-            under_way = subst (λ (d : Desk). IsUnderWay first d (marked attempt)) (sym (rolls.desk order)) turn.under_way;
+            under_way = subst (λ (d : Desk). IsUnderWay first d (marked_waiting attempt)) (sym (rolls.desk order)) turn.under_way;
             kept = rolls.kept;
           }
 
@@ -131,10 +131,10 @@ module _ (begins : Word → Turning) (attempt : Attempt) (refused : List ℕ) (f
     follows-here = record { orderly = orderly-other a committed order settled; kept = is.kept }
 
     module _ (request : Request) (waits : (sitter a.seating seat).waits ≡ Some request) where
-      holders-are : holders a.seating seat request.wants.items ≡ map (λ (other : Entry). other.number) (filter (kept_conflict (requests_told a attempt.entry.number) (locks_told a) attempt.entry.number) (entries a))
+      holders-are : holders a.seating seat request.wants.items ≡ map (λ (other : Active). other.number) (filter (kept_conflict (requests_told a attempt.entry.number) (locks_told a) attempt.entry.number) (entries a))
       holders-are =
           holders-told a sound seat request.wants.items (requests_told a attempt.entry.number) taken (sound.requests seat request taken waits) alike
-          ∙ ap (λ (n : ℕ). map (λ (other : Entry). other.number) (filter (kept_conflict (requests_told a attempt.entry.number) (locks_told a) n) (entries a))) (sym number)
+          ∙ ap (λ (n : ℕ). map (λ (other : Active). other.number) (filter (kept_conflict (requests_told a attempt.entry.number) (locks_told a) n) (entries a))) (sym number)
         where
           asked-is : requests_told a attempt.entry.number ≡ lines_wanted request.wants.items
           asked-is =
@@ -167,7 +167,7 @@ fewer [] seat inside = absurd (cc)
 fewer (one ∷ taken) seat inside = grind (arith, nat_tests, no-more taken seat, fewer taken seat)
 
 module _ (seat : ℕ) (first now : Activity) (before after : Counts) (cycle : List ℕ) (loser : ℕ) (pool : Pool)
-    (sound : IsSound now) (taken : has now.seating.taken seat ≡ true) (number : number_in now.seating seat ≡ number_in first.seating seat)
+    (sound : IsActivitySound now) (taken : has now.seating.taken seat ≡ true) (number : number_in now.seating seat ≡ number_in first.seating seat)
     (contests : Contests seat first before now after)
     (found : cycle_of now.seating seat ≡ Some cycle) (sits : seat_of now.seating (victim_of cycle) ≡ Some loser)
     (rolls : IsRolledBack now loser pool) where
@@ -209,7 +209,7 @@ some_waits None some = absurd (cc (some))
 
 -- at the end: nobody sits in the victim's place only where there is no cycle
 module _ (seat : ℕ) (first now : Activity) (before after : Counts)
-    (sound : IsSound now) (taken : has now.seating.taken seat ≡ true) (number : number_in now.seating seat ≡ number_in first.seating seat)
+    (sound : IsActivitySound now) (taken : has now.seating.taken seat ≡ true) (number : number_in now.seating seat ≡ number_in first.seating seat)
     (contests : Contests seat first before now after) where
   -- the victim of a contested cycle sits somewhere
   pub victim-sits : (cycle : List ℕ) → cycle_of now.seating seat ≡ Some cycle → seat_of now.seating (victim_of cycle) ≡ None

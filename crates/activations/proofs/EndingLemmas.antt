@@ -1,5 +1,5 @@
 -- Nobody sits anywhere, as at first and as after a crash; and what a seat that is left leaves, once its written lines are forgotten or committed.
-use Rattle.activations.proofs.Common.{◌≡◌, refl, ℕ, zero, suc, ◌+◌, ◌%◌, ◌<◌, if◌then◌else◌, Bool, true, false, List, [], ◌∷◌, length, map, replicate, slice_index, slice_index_or, Option, Some, None, range_with_len, option_map_or, ForSome, arith, ap, sym, ◌∙◌, subst, inl, inr, both_ways, nat_tests, same_number_lists, get_or_past, get_or-replicate, length-replicate, All-nil, All-replicate, get_or-map-range_with_len, length-map-range_with_len, Layout, byte_count, page_count, line_of, page_of, has, page_of_line, AreWithin, of_seat, no_lines_of, nothing_held, Authority, unowned, Program, Pool, frame_at, nobody, opened, restarted, owner_told, owners_told, IsCurrent, current-quiet, quiet-consistent, Seat, IsSeating, newcomer, nobody_sits, byte_in_frame, byte_over, is_line_marked, is_marked, Keeps, Live, Activity, authority_at, flat_authority, authority_told, entry_in, number_under, store_over, desk_over, shown, idle, WereRolled, IsRestarted, IsSound, IsKept, KeepsDesk, IsIdentified, AreOfPages, IsMoved, with_pool, Grant, grant_of, Check, row, Desk, Counts, Over, Checked, IsState, over_all, IsOrderly, rolled-consistent, check-ends, plain_over, live_in, program_in, state_in, ComesToEnd, instruction_in, rolled, RollsBack, false_from_ne_true, ◌==◌, not, line-bytes-pos, has-filter, emptied, IsSeen, Stays, Entry, no_counts, due_to, place-kept, seat-told, among-any, taken-below, Reach, IsClean, bytes_over, private_bytes, Fits, emptied-stays, entries, HasUndone, HasSettled, IsDeserted, vacated, ◌≢◌, IsRolledBack, IsCommitted, cases_lt}
+use Rattle.activations.proofs.Common.{◌≡◌, refl, ℕ, zero, suc, ◌+◌, ◌%◌, ◌<◌, if◌then◌else◌, Bool, true, false, List, [], ◌∷◌, length, map, replicate, slice_index, slice_index_or, Option, Some, None, range_with_len, option_map_or, ForSome, arith, ap, sym, ◌∙◌, subst, inl, inr, both_ways, nat_tests, same_number_lists, get_or_past, get_or-replicate, length-replicate, All-nil, All-replicate, get_or-map-range_with_len, length-map-range_with_len, Layout, byte_count, page_count, line_of, page_of, has, page_of_line, AreWithin, of_seat, no_lines_of, nothing_held, Authority, unowned, Program, Pool, frame_at, nobody, opened, restarted, owner_told, owners_told, IsCurrent, current-quiet, quiet-consistent, Seat, IsSeating, newcomer, nobody_sits, byte_in_frame, byte_over, is_line_marked, is_marked, PoolKeeps, Live, Activity, authority_at, flat_authority, authority_told, entry_in, number_under, store_over, desk_over, shown, idle, WereRolled, IsRestarted, IsActivitySound, IsBeside, KeepsDesk, IsIdentified, AreHeldOfPages, IsPoolMoved, with_other_pool, Grant, grant_of, Check, row, Desk, Counts, Over, Checked, IsState, over_all, IsOrderly, rolled-consistent, check-ends, plain_over, live_in, program_in, state_in, ComesToEnd, instruction_in, rolled, RollsBack, false_from_ne_true, ◌==◌, not, line-bytes-pos, has-filter, pool_emptied, IsSeen, Stays, Active, no_counts, due_to, place-kept, seat-told, among-any, taken-below, Reach, IsClean, bytes_over, private_bytes, PoolFits, emptied-stays, entries, HasUndone, HasSettled, IsDeserted, vacated, ◌≢◌, IsRolledBack, CommitsWherever, cases_lt}
 use Rattle.storage_unit.proofs.CommitIsUnseen.{commit-is-unseen}
 use Rattle.storage_unit.proofs.EmptyKeeps.{empty-keeps}
 use Rattle.storage_unit.proofs.IncomingLemmas.{none-has, emptied-resident}
@@ -39,17 +39,17 @@ seating-none pages = record {
   free = λ seat below gone. get_or-replicate 16 seat (no_lines_of pages) [] below;
 }
 
-lines-none : (pages seat : ℕ) → AreOfPages (of_seat (nothing_held pages) seat)
+lines-none : (pages seat : ℕ) → AreHeldOfPages (of_seat (nothing_held pages) seat)
 lines-none pages seat = elim (cases_lt seat 16) [
-  | inl below ↦ subst AreOfPages (sym (get_or-replicate 16 seat (no_lines_of pages) [] below)) (none-of-pages pages)
-  | inr out ↦ subst AreOfPages (sym (get_or_past (replicate 16 (no_lines_of pages)) seat [] (let long = length-replicate 16 (no_lines_of pages) in omega (arith, out, long)))) (none-of-pages 0)
+  | inl below ↦ subst AreHeldOfPages (sym (get_or-replicate 16 seat (no_lines_of pages) [] below)) (none-of-pages pages)
+  | inr out ↦ subst AreHeldOfPages (sym (get_or_past (replicate 16 (no_lines_of pages)) seat [] (let long = length-replicate 16 (no_lines_of pages) in omega (arith, out, long)))) (none-of-pages 0)
 ]
 
 module _ (programs : List Program) (most_lines frames : ℕ) (directory : Layout) (live : List Live) where
   abbrev at_first : Activity
   at_first = idle programs most_lines frames directory live
 
-  pub sound-idle : length live ≡ 16 → IsSound at_first
+  pub sound-idle : length live ≡ 16 → IsActivitySound at_first
   sound-idle sixteen = record {
     seating = seating-none (page_count directory);
     seats = record { apart = λ at other inside there. nobody-there at inside };
@@ -87,7 +87,7 @@ module _ (programs : List Program) (most_lines frames : ℕ) (directory : Layout
         ∙ ap (λ (frame : Option ℕ). option_map_or (byte_in_frame directory at_first.reach.pool place) frame (if is_marked directory at_first.reach.pool place then slice_index at_first.reach.pool.kept place else slice_index committed place)) (no-frame (page_of directory place))
         ∙ ap (λ (b : Bool). if b then slice_index at_first.reach.pool.kept place else slice_index committed place) (no-mark (line_of directory place)))
 
-    kept-idle : IsKept at_first committed
+    kept-idle : IsBeside at_first committed
     kept-idle = record {
       long = long;
       held = λ seat inside. nobody-there seat inside;
@@ -102,8 +102,8 @@ module _ (programs : List Program) (most_lines frames : ℕ) (directory : Layout
     follows-idle = record { orderly = quiet-consistent (desk_over at_first committed []) long (omega arith) refl authority-idle; kept = kept-idle }
 
 -- Nobody is left, and all pages went out: it is the desk that a crash leaves.
-module _ (a : Activity) (pool : Pool) (committed : List ℕ) (sound : IsSound a) (none : a.seating.taken ≡ []) (moved : IsMoved a.reach.pool pool) (out : pool.resident ≡ [])
-    (keeps : Keeps a.reach.directory a.reach.pool pool committed) where
+module _ (a : Activity) (pool : Pool) (committed : List ℕ) (sound : IsActivitySound a) (none : a.seating.taken ≡ []) (moved : IsPoolMoved a.reach.pool pool) (out : pool.resident ≡ [])
+    (keeps : PoolKeeps a.reach.directory a.reach.pool pool committed) where
   authority-out : authority_told a ≡ replicate (page_count a.reach.directory) nobody
   authority-out = all-nobodys a sound.entries (λ page. by_owner (slice_index_or a.reach.entries page unowned) (sound.identified page))
     where
@@ -111,22 +111,22 @@ module _ (a : Activity) (pool : Pool) (committed : List ℕ) (sound : IsSound a)
       by_owner one (inl is) = is
       by_owner one (inr (seat, inside, is)) = nobody-there seat (sym (ap (λ (taken : List ℕ). has taken seat) none) ∙ inside)
 
-  pub desk-out : (order : List (ℕ × ℕ)) → desk_over (with_pool a pool) committed order ≡ restarted (desk_over a committed order)
+  pub desk-out : (order : List (ℕ × ℕ)) → desk_over (with_other_pool a pool) committed order ≡ restarted (desk_over a committed order)
   desk-out order i = record (desk_over a committed order) { frames = moved.frames i; active = map (entry_in a) (none i); authority = authority-out i; resident = out i }
 
-  pub restarts : (old : Activity) → WereRolled old a committed → IsRestarted old (with_pool a pool) committed
+  pub restarts : (old : Activity) → WereRolled old a committed → IsRestarted old (with_other_pool a pool) committed
   restarts old were = record {
     desk = λ order. desk-out order ∙ were.restarts order;
     follows = moved-follows a pool committed sound moved keeps were.follows;
   }
 
 -- frames may have other pages
-pub sound-pool : (a : Activity) (pool : Pool) → IsSound a → IsSound (with_pool a pool)
+pub sound-pool : (a : Activity) (pool : Pool) → IsActivitySound a → IsActivitySound (with_other_pool a pool)
 sound-pool a pool sound = sound-beside a a.next pool a.reach.entries a.reach.registers a.reach.runner sound sound.numbers sound.entries sound.identified
 
 module _ (a : Activity) (seat : ℕ) (pool : Pool) where
-  pub sound-rolled : IsSound a → has a.seating.taken seat ≡ true → IsSound (rolled a seat pool)
-  sound-rolled sound taken = sound-left (with_pool a pool) seat (sound-pool a pool sound) taken
+  pub sound-rolled : IsActivitySound a → has a.seating.taken seat ≡ true → IsActivitySound (rolled a seat pool)
+  sound-rolled sound taken = sound-left (with_other_pool a pool) seat (sound-pool a pool sound) taken
 
   pub rolled-follows : (committed : List ℕ) → KeepsDesk a committed → RollsBack a seat pool committed → KeepsDesk (rolled a seat pool) committed
   rolled-follows committed follows rolls = record {
@@ -161,19 +161,19 @@ module _ (a : Activity) (seat : ℕ) (mid : Reach) (new : Activity) (is : new �
   pub shape-left : mid ≡ record a.reach { pool = mid.pool } → new ≡ rolled a seat new.reach.pool
   shape-left rest = is ∙ ap (λ (r : Reach). vacated (record a { reach = r }) seat) rest ∙ (λ i. rolled a seat (sym (ap (λ (n : Activity). n.reach.pool) is) i))
 
-  pub sound-after : mid ≡ record a.reach { pool = mid.pool } → IsSound a → has a.seating.taken seat ≡ true → IsSound new
-  sound-after rest sound taken = subst IsSound (sym (shape-left rest)) (sound-rolled a seat new.reach.pool sound taken)
+  pub sound-after : mid ≡ record a.reach { pool = mid.pool } → IsActivitySound a → has a.seating.taken seat ≡ true → IsActivitySound new
+  sound-after rest sound taken = subst IsActivitySound (sym (shape-left rest)) (sound-rolled a seat new.reach.pool sound taken)
 
 -- The lines that were written in a seat were forgotten or committed, and its pool is another.
 module _ (a : Activity) (seat : ℕ) (pool : Pool) where
   abbrev mid : Reach
   mid = record a.reach { pool = pool }
 
-  pub rolls-left : HasUndone a.seating.holding seat a.reach mid → IsSound a → has a.seating.taken seat ≡ true → IsRolledBack a seat pool
+  pub rolls-left : HasUndone a.seating.holding seat a.reach mid → IsActivitySound a → has a.seating.taken seat ≡ true → IsRolledBack a seat pool
   rolls-left undone sound taken committed consistent kept =
       rolls-back a seat pool undone.pages committed sound taken consistent kept undone.written undone.were (undone.are committed kept.long kept.clean)
 
-  pub commits-left : HasSettled a.seating.holding seat a.reach mid → IsSound a → has a.seating.taken seat ≡ true → IsCommitted a seat pool
+  pub commits-left : HasSettled a.seating.holding seat a.reach mid → IsActivitySound a → has a.seating.taken seat ≡ true → CommitsWherever a seat pool
   commits-left settled sound taken committed now follows at call =
       commits-here a seat pool settled.pages committed now sound taken follows at call settled.written settled.were keeps unseen.0
     where
@@ -181,7 +181,7 @@ module _ (a : Activity) (seat : ℕ) (pool : Pool) where
       unwritten line clear = false_from_ne_true _
           (λ wrote_it. both_ways (is_line_marked a.reach.pool line) clear
           (follows.kept.marked.is line
-          ∙ among-any (λ (entry : Entry). has (due_to (store_over a committed) entry).writes line) (entries a) (entry_in a seat) (seat-told a.seating.taken (entry_in a) seat taken) wrote_it))
+          ∙ among-any (λ (entry : Active). has (due_to (store_over a committed) entry).writes line) (entries a) (entry_in a seat) (seat-told a.seating.taken (entry_in a) seat taken) wrote_it))
 
       same : (place : ℕ) → place < byte_count a.reach.directory → is_marked a.reach.directory a.reach.pool place ≡ false → slice_index now.store place ≡ slice_index committed place
       same place within clear =
@@ -191,7 +191,7 @@ module _ (a : Activity) (seat : ℕ) (pool : Pool) where
       unseen : (bytes_over a.reach.directory a.reach.pool now.store ≡ shown a committed) × IsClean a.reach.directory a.reach.pool now.store
       unseen = commit-is-unseen a.reach.directory a.reach.pool committed now.store follows.kept.clean same
 
-      keeps : Keeps a.reach.directory a.reach.pool pool now.store
+      keeps : PoolKeeps a.reach.directory a.reach.pool pool now.store
       keeps = settled.keeps now.store unseen.1
           (λ place within wrote_it. ap (λ (bytes : List ℕ). slice_index bytes place) unseen.0 ∙ wrote-seen a seat pool settled.pages committed now sound taken follows at call place within wrote_it)
 
@@ -236,11 +236,11 @@ module _ (old now : Activity) (seat : ℕ) (so : RolledSo seat old now) where
   }
 
 -- All sixteen are left, and the pages go out.
-module _ (old now new : Activity) (sound : IsSound now) (so : RolledSo 16 old now) (fits : Fits now.reach.directory now.reach.pool) (is : new ≡ with_pool now (emptied now.reach.pool)) where
+module _ (old now new : Activity) (sound : IsActivitySound now) (so : RolledSo 16 old now) (fits : PoolFits now.reach.directory now.reach.pool) (is : new ≡ with_other_pool now (pool_emptied now.reach.pool)) where
   none_sits : now.seating.taken ≡ []
   none_sits = none-has now.seating.taken (λ seat inside. both_ways (has now.seating.taken seat) (so.gone seat (taken-below now.seating sound.seating seat inside)) inside)
 
-  stays : Stays now.reach.pool (emptied now.reach.pool)
+  stays : Stays now.reach.pool (pool_emptied now.reach.pool)
   stays = emptied-stays now.reach.pool
 
   pub deserted : IsDeserted old new
@@ -250,7 +250,7 @@ module _ (old now new : Activity) (sound : IsSound now) (so : RolledSo 16 old no
   pub restarted-left : IsSeen new.reach.pool → (committed : List ℕ) → KeepsDesk old committed → IsRestarted old new committed
   restarted-left seen committed follows =
       let past = so.were committed follows in subst (λ (n : Activity). IsRestarted old n committed) (sym is)
-      (restarts now (emptied now.reach.pool) committed sound none_sits
+      (restarts now (pool_emptied now.reach.pool) committed sound none_sits
       (record {
         marked = stays.marked;
         private = λ seat below. ap (λ (bytes : List ℕ). private_bytes (record now.reach.pool { bytes = bytes }) seat) stays.bytes;

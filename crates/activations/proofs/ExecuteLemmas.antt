@@ -1,12 +1,12 @@
 -- An attempt in a seat that is selected, and rows that take effect one after another.
-use Rattle.activations.proofs.Common.{◌≡◌, refl, ℕ, ◌<◌, ◌==◌, true, List, [], ◌∷◌, ◌++◌, length, replicate, slice_set, slice_index_or, arith, ap, sym, ◌∙◌, subst, length-append, length-set, length-replicate, set-get_or, get_or_default, has, byte_count, Cpu, IsOfFewBytes, IsClean, Reach, registers_of_program, private_segment, HasWindows, GoesOpen, IsRow, GivesRows, ChangesBytes, StaysClean, LeavesSeats, plain_over, taken-below, Live, Activity, live_in, program_in, nothing_runs, IsSound, executed, HasExecuted, IsSelected, TookEffect, WasAttempted, printed_after, attempted, suc, ◌+◌, find, Option, Some, None, option_map, Outcome, row, Program, Desk, Entry, Word, Counts, Going, instruction, turns, told-found, Seat, Seating, sitter, number_in, went_on, seat-of-taken, entry_in, entries, desk_over, Strode, CameTo, plain_in, KeepsDesk, counted, GoesOn, Strides, ◌⊎◌, inl, inr, KeepsParts, RunsAt, StrodeTo, with_live, set-set, Turning, Want, Authority, StaysSeated, GoesUncounted, IsServed, AreLowered, pages_lowered, with_entries, nat_tests, Commit, IsState, over_all, store_over, state_in, shown, instruction_in, IsAtCommit}
+use Rattle.activations.proofs.Common.{◌≡◌, refl, ℕ, ◌<◌, ◌==◌, true, List, [], ◌∷◌, ◌++◌, length, replicate, slice_set, slice_index_or, arith, ap, sym, ◌∙◌, subst, length-append, length-set, length-replicate, set-get_or, get_or_default, has, byte_count, Cpu, IsOfFewBytes, IsClean, Reach, registers_of_program, private_segment, HasWindows, GoesOpen, IsRow, GivesRows, ChangesBytes, StaysClean, LeavesSeats, plain_over, taken-below, Live, Activity, live_in, program_in, nothing_runs, IsActivitySound, executed, HasExecuted, IsSeatSelected, TookEffect, WasAttempted, printed_after, attempted, suc, ◌+◌, find, Option, Some, None, option_map, Outcome, row, Program, Desk, Active, DiskWord, Counts, Going, instruction, turns, told-found, Seat, Seating, sitter, number_in, went_on, seat-of-taken, entry_in, entries, desk_over, Strode, CameTo, plain_in, KeepsDesk, counted, RowGoesOn, Strides, ◌⊎◌, inl, inr, KeepsParts, RunsAt, StrodeTo, with_live, set-set, Turning, Want, Authority, StaysSeated, GoesUncounted, IsServed, AreLowered, pages_lowered, with_entries, nat_tests, Commit, IsState, over_all, store_over, state_in, shown, instruction_in, IsAtCommit}
 use Rattle.romp_cpu.specs.declared.cpu.Attempt.{Attempt}
 use Rattle.activations.proofs.SittingLemmas.{live-there, sound-reseated, entry-counted, number-counted, counted-more, sitter-there, sitter-other, state-shows, sound-live}
 use Rattle.activations.proofs.RowLemmas.{goes-on}
 use Rattle.activations.proofs.KeptLemmas.{keeps-itself, keeps-two, keeps-took}
 use Rattle.activations.proofs.CommitLemmas.{ends}
 
-module _ (a : Activity) (seat : ℕ) (sound : IsSound a) (taken : has a.seating.taken seat ≡ true) where
+module _ (a : Activity) (seat : ℕ) (sound : IsActivitySound a) (taken : has a.seating.taken seat ≡ true) where
   pub within : seat < length a.live
   within = omega (arith, sound.live, taken-below a.seating sound.seating seat taken)
 
@@ -14,7 +14,7 @@ module _ (a : Activity) (seat : ℕ) (sound : IsSound a) (taken : has a.seating.
   pub runs-there : (live : Live) (at : ℕ) → at ≡ seat → live ≡ slice_index_or a.live at live → live ≡ live_in a seat
   runs-there live at here is = is ∙ ap (λ (n : ℕ). slice_index_or a.live n live) here ∙ get_or_default a.live seat live nothing_runs within
 
-  module _ (selected : IsSelected a seat) where
+  module _ (selected : IsSeatSelected a seat) where
     -- what the attempt of its processor came to, is the row of its program
     pub row-seen : (attempt : Attempt) (after : Cpu) (new : Reach) → GivesRows attempt (live_in a seat).cpu after a.reach new
         → (committed : List ℕ) → length committed ≡ byte_count a.reach.directory
@@ -60,10 +60,10 @@ module _ (a : Activity) (seat : ℕ) (sound : IsSound a) (taken : has a.seating.
         });
       }
 
-      pub sound-after : IsSound ran
+      pub sound-after : IsActivitySound ran
       sound-after =
           let one = goes (replicate (byte_count a.reach.directory) 0) (length-replicate (byte_count a.reach.directory) 0) in
-          subst IsSound (sym shape) (sound-live a seat live new.pool.bytes new.pool.marked sound (λ inside. (registers, one.printed, one.few)))
+          subst IsActivitySound (sym shape) (sound-live a seat live new.pool.bytes new.pool.marked sound (λ inside. (registers, one.printed, one.few)))
 
     -- it changed nothing
     unchanged : (cpu : Cpu) (new : Reach) → cpu ≡ (live_in a seat).cpu → new ≡ a.reach
@@ -75,7 +75,7 @@ module _ (a : Activity) (seat : ℕ) (sound : IsSound a) (taken : has a.seating.
 
     -- what the attempt came to, for the desk
     pub was-attempted : (attempt : Attempt) (cpu : Cpu) (new : Reach) → GivesRows attempt (live_in a seat).cpu cpu a.reach new → ChangesBytes a.reach new → StaysClean a.reach new → LeavesSeats a.reach new → IsOfFewBytes attempt
-        → IsSound (attempted a seat attempt cpu new) × WasAttempted attempt a seat (attempted a seat attempt cpu new)
+        → IsActivitySound (attempted a seat attempt cpu new) × WasAttempted attempt a seat (attempted a seat attempt cpu new)
     was-attempted Attempt.Went cpu new gives changes clean leaves few =
         let live : Live = record (live_in a seat) { cpu = cpu } in
         (sound-after live new changes clean leaves refl (row-seen Attempt.Went cpu new gives), took-effect live new changes clean leaves refl (row-seen Attempt.Went cpu new gives))
@@ -85,23 +85,23 @@ module _ (a : Activity) (seat : ℕ) (sound : IsSound a) (taken : has a.seating.
     was-attempted Attempt.Commit cpu new gives changes clean leaves few =
         let stays = (row-seen Attempt.Commit cpu new gives zeros (length-replicate (byte_count a.reach.directory) 0)).1 in
         let same = unchanged cpu new stays.0 stays.1 in
-        (subst IsSound (sym same) sound, (same, (λ committed long. (row-seen Attempt.Commit cpu new gives committed long).0)))
+        (subst IsActivitySound (sym same) sound, (same, (λ committed long. (row-seen Attempt.Commit cpu new gives committed long).0)))
     was-attempted (Attempt.Check code) cpu new gives changes clean leaves few =
         let stays = (row-seen (Attempt.Check code) cpu new gives zeros (length-replicate (byte_count a.reach.directory) 0)).1 in
         let same = unchanged cpu new stays.0 stays.1 in
-        (subst IsSound (sym same) sound, (same, (λ committed long. (row-seen (Attempt.Check code) cpu new gives committed long).0)))
+        (subst IsActivitySound (sym same) sound, (same, (λ committed long. (row-seen (Attempt.Check code) cpu new gives committed long).0)))
     was-attempted (Attempt.Fault fault access) cpu new gives changes clean leaves few =
         let stays = (row-seen (Attempt.Fault fault access) cpu new gives zeros (length-replicate (byte_count a.reach.directory) 0)).1 in
         let same = unchanged cpu new stays.0 stays.1 in
-        (subst IsSound (sym same) sound, (same, record { some = few.0; few = few.1; shut = λ committed long. (row-seen (Attempt.Fault fault access) cpu new gives committed long).0 }))
+        (subst IsActivitySound (sym same) sound, (same, record { some = few.0; few = few.1; shut = λ committed long. (row-seen (Attempt.Fault fault access) cpu new gives committed long).0 }))
 
     -- as the calls leave it
     pub attempted-so : (attempt : Attempt) (was : Live) (cpu : Cpu) (new : Reach) (out : List ℕ) (at : ℕ) → was ≡ live_in a seat → printed_after attempt was.out ≡ out → at ≡ seat
         → GivesRows attempt was.cpu cpu a.reach new → ChangesBytes a.reach new → StaysClean a.reach new → LeavesSeats a.reach new → IsOfFewBytes attempt
-        → IsSound (record a { live = slice_set a.live at (record { cpu = cpu; registers = was.registers; out = out }); reach = new })
+        → IsActivitySound (record a { live = slice_set a.live at (record { cpu = cpu; registers = was.registers; out = out }); reach = new })
         × WasAttempted attempt a seat (record a { live = slice_set a.live at (record { cpu = cpu; registers = was.registers; out = out }); reach = new })
     attempted-so attempt was cpu new out at is printed here gives changes clean leaves few =
-        subst (λ (after : Activity). IsSound after × WasAttempted attempt a seat after) path
+        subst (λ (after : Activity). IsActivitySound after × WasAttempted attempt a seat after) path
         (was-attempted attempt cpu new (subst (λ (l : Live). GivesRows attempt l.cpu cpu a.reach new) is gives) changes clean leaves few)
       where
         outs : printed_after attempt (live_in a seat).out ≡ out
@@ -119,7 +119,7 @@ not-printed (Attempt.Check code) out other = refl
 not-printed (Attempt.Fault fault access) out other = refl
 
 -- one row more, over so many that aren't counted yet
-pub strides : (a : Activity) (seat rows : ℕ) (live : Live) (bytes : List ℕ) (marked : List (List ℕ)) (committed : List ℕ) → IsSound (counted a seat rows) → has a.seating.taken seat ≡ true → a.reach.runner ≡ seat + 1
+pub strides : (a : Activity) (seat rows : ℕ) (live : Live) (bytes : List ℕ) (marked : List (List ℕ)) (committed : List ℕ) → IsActivitySound (counted a seat rows) → has a.seating.taken seat ≡ true → a.reach.runner ≡ seat + 1
     → length a.seating.sitters ≡ 16
     → KeepsDesk (counted a seat rows) committed → HasExecuted a seat live bytes marked committed → Strides a seat rows live bytes marked committed
 strides a seat rows live bytes marked committed sound taken runner sixteen follows went = record {
@@ -128,9 +128,9 @@ strides a seat rows live bytes marked committed sound taken runner sixteen follo
 }
   where
     program-same : program_in a seat ≡ program_in (counted a seat rows) seat
-    program-same = sym (ap (λ (e : Entry). e.runs.program) (entry-counted a seat rows sixteen (taken-below (counted a seat rows).seating sound.seating seat taken)))
+    program-same = sym (ap (λ (e : Active). e.runs.program) (entry-counted a seat rows sixteen (taken-below (counted a seat rows).seating sound.seating seat taken)))
 
-    goes : GoesOn (counted a seat rows) seat live bytes marked committed
+    goes : RowGoesOn (counted a seat rows) seat live bytes marked committed
     goes = goes-on (counted a seat rows) seat live bytes marked committed sound taken runner follows (record {
       goes = subst (λ (program : Program). GoesOpen program a.reach (executed a seat live bytes marked).reach (plain_over committed (live_in a seat).cpu a.reach (live_in a seat).out) (plain_over committed live.cpu (executed a seat live bytes marked).reach live.out) live.cpu) program-same went.goes;
       clean = went.clean;
@@ -140,7 +140,7 @@ strides a seat rows live bytes marked committed sound taken runner sixteen follo
     more : counted (executed (counted a seat rows) seat live bytes marked) seat 1 ≡ counted (executed a seat live bytes marked) seat (rows + 1)
     more = counted-more (executed a seat live bytes marked) seat rows sixteen (taken-below (counted a seat rows).seating sound.seating seat taken)
 
-module _ (a : Activity) (seat rows : ℕ) (sound : IsSound a) (taken : has a.seating.taken seat ≡ true) where
+module _ (a : Activity) (seat rows : ℕ) (sound : IsActivitySound a) (taken : has a.seating.taken seat ≡ true) where
   below : seat < 16
   below = taken-below a.seating sound.seating seat taken
 
@@ -148,22 +148,22 @@ module _ (a : Activity) (seat rows : ℕ) (sound : IsSound a) (taken : has a.sea
   who = record (sitter a.seating seat) { rows = (sitter a.seating seat).rows + rows; waits = None }
 
   -- rows that are counted
-  pub sound-counted : IsSound (counted a seat rows)
+  pub sound-counted : IsActivitySound (counted a seat rows)
   sound-counted = sound-reseated a seat who sound taken refl refl (λ request none. absurd (cc (none))) (λ request none. absurd (cc (none)))
 
   -- the entry of who sits there is found by its number
-  pub found-counted : find (λ (entry : Entry). entry.number == number_in a.seating seat) (entries (counted a seat rows)) ≡ Some (entry_in (counted a seat rows) seat)
+  pub found-counted : find (λ (entry : Active). entry.number == number_in a.seating seat) (entries (counted a seat rows)) ≡ Some (entry_in (counted a seat rows) seat)
   found-counted = told-found a.seating.taken (entry_in (counted a seat rows)) (number_in a.seating seat)
       ∙ ap (λ (n : ℕ). option_map (entry_in (counted a seat rows)) (find (λ at. number_in (went_on a.seating seat rows) at == n) a.seating.taken)) (sym (number-counted a seat rows sound.seating.sixteen below seat))
       ∙ ap (option_map (entry_in (counted a seat rows))) (seat-of-taken (went_on a.seating seat rows) sound-counted.seating seat taken)
 
 -- an instruction of a turn that goes on
-turns-on : (word : Word) (number left : ℕ) (desk later : Desk) (counts after : Counts) (entry : Entry)
-    → find (λ (entry : Entry). entry.number == number) desk.active ≡ Some entry → instruction word (Some entry) desk counts ≡ Going later after
+turns-on : (word : DiskWord) (number left : ℕ) (desk later : Desk) (counts after : Counts) (entry : Active)
+    → find (λ (entry : Active). entry.number == number) desk.active ≡ Some entry → instruction word (Some entry) desk counts ≡ Going later after
     → turns word number (suc left) (Going desk counts) ≡ turns word number left (Going later after)
 unfolding turns
 turns-on word number left desk later counts after entry found on =
-    ap (λ (one : Option Entry). turns word number left (instruction word one desk counts)) found ∙ ap (turns word number left) on
+    ap (λ (one : Option Active). turns word number left (instruction word one desk counts)) found ∙ ap (turns word number left) on
 
 -- no row is a stride of none
 pub strode-none : (a : Activity) (seat : ℕ) → Strode a seat 0 a
@@ -181,7 +181,7 @@ strode-none a seat = record {
     more n = omega arith
 
 -- a row that took effect is a stride of one
-pub one-strode : (a after : Activity) (seat : ℕ) → IsSound a → has a.seating.taken seat ≡ true → IsSelected a seat → TookEffect a seat after → Strode a seat 1 after
+pub one-strode : (a after : Activity) (seat : ℕ) → IsActivitySound a → has a.seating.taken seat ≡ true → IsSeatSelected a seat → TookEffect a seat after → Strode a seat 1 after
 one-strode a after seat sound taken selected took = record {
   seating = ap (λ (x : Activity). x.seating) took.shape;
   follows = λ committed before follows. subst (λ (x : Activity). KeepsDesk (counted x seat (before + 1)) committed) (sym took.shape) (step committed before follows).follows;
@@ -219,8 +219,8 @@ strode-on a middle after seat rows first second = record {
     later left = omega arith
 
 -- a stride goes on over a row that took effect
-pub strode-more : (first a after : Activity) (seat rows : ℕ) → IsSound a → has a.seating.taken seat ≡ true → IsSelected a seat → Strode first seat rows a → IsSound after → TookEffect a seat after
-    → (has after.seating.taken seat ≡ true) × IsSelected after seat × Strode first seat (rows + 1) after
+pub strode-more : (first a after : Activity) (seat rows : ℕ) → IsActivitySound a → has a.seating.taken seat ≡ true → IsSeatSelected a seat → Strode first seat rows a → IsActivitySound after → TookEffect a seat after
+    → (has after.seating.taken seat ≡ true) × IsSeatSelected after seat × Strode first seat (rows + 1) after
 strode-more first a after seat rows sound taken selected strode later took = (
   ap (λ (x : Activity). has x.seating.taken seat) took.shape ∙ taken,
   record {
@@ -259,7 +259,7 @@ module _ (a : Activity) (seat : ℕ) (reach : Reach) (live : Live) (at : RunsAt 
   -- what an attempt came to
   pub attempted-at : (attempt : Attempt) (cpu : Cpu) (new : Reach) (out : List ℕ) → printed_after attempt live.out ≡ out
       → GivesRows attempt live.cpu cpu reach new → ChangesBytes reach new → StaysClean reach new → LeavesSeats reach new → IsOfFewBytes attempt
-      → IsSound (with_live a seat (record live { cpu = cpu; out = out }) new) × WasAttempted attempt a seat (with_live a seat (record live { cpu = cpu; out = out }) new)
+      → IsActivitySound (with_live a seat (record live { cpu = cpu; out = out }) new) × WasAttempted attempt a seat (with_live a seat (record live { cpu = cpu; out = out }) new)
   attempted-at attempt cpu new out printed gives changes clean leaves few =
       let back = sym at.reached in
       attempted-so a seat at.sound at.taken at.selected attempt live cpu new out seat (sym at.runs) printed refl
@@ -274,11 +274,11 @@ module _ (a : Activity) (seat rows : ℕ) (live next : Live) (reach new : Reach)
   pub attempted-again : (attempt : Attempt) → WasAttempted attempt (with_live a seat live reach) seat (with_live (with_live a seat live reach) seat next new) → WasAttempted attempt (with_live a seat live reach) seat (with_live a seat next new)
   attempted-again attempt = subst (WasAttempted attempt (with_live a seat live reach) seat) again
 
-  pub strode-one : IsSound (with_live (with_live a seat live reach) seat next new) → TookEffect (with_live a seat live reach) seat (with_live (with_live a seat live reach) seat next new)
+  pub strode-one : IsActivitySound (with_live (with_live a seat live reach) seat next new) → TookEffect (with_live a seat live reach) seat (with_live (with_live a seat live reach) seat next new)
       → StrodeTo a seat (rows + 1) next new
   strode-one sound took =
       let before = with_live a seat live reach in let after = with_live a seat next new in
-      let later : IsSound after = subst IsSound again sound in
+      let later : IsActivitySound after = subst IsActivitySound again sound in
       let effect : TookEffect before seat after = subst (TookEffect before seat) again took in
       let more = strode-more a before after seat rows so.runs.sound so.runs.taken so.runs.selected so.strode later effect in
       record {
@@ -297,9 +297,9 @@ module _ (a : Activity) (seat rows : ℕ) (live next : Live) (reach new : Reach)
   pub strode-same : with_live a seat next new ≡ with_live a seat live reach → StrodeTo a seat rows next new
   strode-same same = record {
     runs = record {
-      sound = subst IsSound (sym same) so.runs.sound;
+      sound = subst IsActivitySound (sym same) so.runs.sound;
       taken = subst (λ (x : Activity). has x.seating.taken seat ≡ true) (sym same) so.runs.taken;
-      selected = subst (λ (x : Activity). IsSelected x seat) (sym same) so.runs.selected;
+      selected = subst (λ (x : Activity). IsSeatSelected x seat) (sym same) so.runs.selected;
       reached = refl;
       runs = live-there a.live seat next (subst (λ n. seat < n) (length-set a.live seat live) (within (with_live a seat live reach) seat so.runs.sound so.runs.taken));
     };
@@ -318,7 +318,7 @@ came-either attempt a after seat (inl is) went = (subst (λ (one : Attempt). Was
 came-either attempt a after seat (inr (code, is)) went = (subst (λ (one : Attempt). WasAttempted one a seat after) is went).0
 
 -- what is read in a seat that is selected runs there
-pub runs-at : (a : Activity) (seat at : ℕ) (live : Live) → IsSound a → has a.seating.taken seat ≡ true → IsSelected a seat → at ≡ seat → live ≡ slice_index_or a.live at live → RunsAt a seat a.reach live
+pub runs-at : (a : Activity) (seat at : ℕ) (live : Live) → IsActivitySound a → has a.seating.taken seat ≡ true → IsSeatSelected a seat → at ≡ seat → live ≡ slice_index_or a.live at live → RunsAt a seat a.reach live
 runs-at a seat at live sound taken selected here is = record { sound = sound; taken = taken; selected = selected; reached = refl; runs = sym (runs-there a seat sound taken live at here is) }
 
 -- and what is written there
@@ -326,7 +326,7 @@ pub in-place : (a : Activity) (seat at : ℕ) (live : Live) (reach : Reach) → 
 in-place a seat at live reach here i = with_live a (sym here i) live reach
 
 -- rows that are counted, and nothing else
-pub keeps-counted : (a : Activity) (seat rows : ℕ) → IsSound a → has a.seating.taken seat ≡ true → KeepsParts a (counted a seat rows) rows
+pub keeps-counted : (a : Activity) (seat rows : ℕ) → IsActivitySound a → has a.seating.taken seat ≡ true → KeepsParts a (counted a seat rows) rows
 keeps-counted a seat rows sound taken =
     let below : seat < 16 = taken-below a.seating sound.seating seat taken in
     let who : Seat = record (sitter a.seating seat) { rows = (sitter a.seating seat).rows + rows; waits = None } in
@@ -343,7 +343,7 @@ keeps-counted a seat rows sound taken =
     }
 
 -- a row that took effect
-module _ (begins : Word → Turning) (a after : Activity) (seat : ℕ) (wants : List Want) (committed : List ℕ) (order : List (ℕ × ℕ)) (counts : Counts)
+module _ (begins : DiskWord → Turning) (a after : Activity) (seat : ℕ) (wants : List Want) (committed : List ℕ) (order : List (ℕ × ℕ)) (counts : Counts)
     (served : IsServed begins a seat wants committed order counts) where
   pub took-served : TookEffect a seat after → (eased : List Authority) → AreLowered after seat (pages_lowered after seat wants) after.reach.entries eased
       → GoesUncounted begins (with_entries after eased) seat committed order counts
@@ -353,7 +353,7 @@ module _ (begins : Word → Turning) (a after : Activity) (seat : ℕ) (wants : 
       (subst (λ (x : Activity). AreLowered x seat (pages_lowered x seat wants) x.reach.entries eased) took.shape lowers))
 
 -- who sits there stays, and is selected still
-pub took-stays : (a ran : Activity) (seat : ℕ) (owned : List Authority) → IsSound a → IsSound ran → has a.seating.taken seat ≡ true → TookEffect a seat ran → StaysSeated a (with_entries ran owned) seat
+pub took-stays : (a ran : Activity) (seat : ℕ) (owned : List Authority) → IsActivitySound a → IsActivitySound ran → has a.seating.taken seat ≡ true → TookEffect a seat ran → StaysSeated a (with_entries ran owned) seat
 took-stays a ran seat owned sound later taken took =
     let taken_there : has ran.seating.taken seat ≡ true = ap (λ (x : Activity). has x.seating.taken seat) took.shape ∙ taken in
     record {
@@ -372,14 +372,14 @@ took-either attempt a after seat (inl is) went = subst (λ (one : Attempt). WasA
 took-either attempt a after seat (inr (byte, is)) went = subst (λ (one : Attempt). WasAttempted one a seat after) is went
 
 module _ (a : Activity) (seat : ℕ) (committed : List ℕ) (order : List (ℕ × ℕ)) (counts : Counts)
-    (sound : IsSound a) (taken : has a.seating.taken seat ≡ true) (selected : IsSelected a seat) (follows : KeepsDesk a committed) where
+    (sound : IsActivitySound a) (taken : has a.seating.taken seat ≡ true) (selected : IsSeatSelected a seat) (follows : KeepsDesk a committed) where
   -- a row that takes effect
   pub row-goes : (after : Activity) → TookEffect a seat after → GoesUncounted (instruction_in a seat committed order counts) after seat committed order counts
   row-goes after took =
       subst (λ (x : Activity). GoesUncounted (instruction_in a seat committed order counts) x seat committed order counts) (sym took.shape)
       (record { comes = λ word reads. goes.is_instruction word order counts; follows = goes.follows })
     where
-      goes : GoesOn a seat (live_in after seat) after.reach.pool.bytes after.reach.pool.marked committed
+      goes : RowGoesOn a seat (live_in after seat) after.reach.pool.bytes after.reach.pool.marked committed
       goes = goes-on a seat (live_in after seat) after.reach.pool.bytes after.reach.pool.marked committed sound taken selected.runner follows (took.went committed follows.kept.long follows.kept.clean)
 
   abbrev state : IsState (store_over a committed) (entry_in a seat) (state_in a seat)

@@ -1,5 +1,5 @@
 -- Pages of a touch that come in from the store on the disk, one after the other, or that break off.
-use Rattle.activations.proofs.Common.{IsSeen, asks_none, length-replicate, replicate, ◌⊎◌, inr, inl, not-true, or_parts, arith, ap, sym, ◌∙◌, subst, ltb-false, PageSize, Layout, byte_count, page_count, page_bytes, byte_count-lines, brought, has, has_left, overlaid, Ghosts, OnlyAsks, FewerLater, held_of, Standing, Stands, NotAStore, Damaged, stands, KeptStore, Pool, private_frames, line_place, reach_of, IsClean, private_bytes, Fits, Keeps, filled, page_in, frame-high, laid-bytes, room-stays, emptied-stays, IsStoreOf, IsIn, IsMoved, ◌≡◌, refl, ℕ, ◌+◌, ◌-◌, ◌*◌, ◌<◌, ◌≤◌, ◌==◌, ◌++◌, not, nat_lt, if◌then◌else◌, Bool, true, false, List, [], ◌∷◌, length, take, drop, fold, remove, position, unwrap_or, slice_index, Option, Some, None, option_to_list, Result, Ok, Err, OnOk, OnErr, take-append-le, take-take, length-append, length-take, Brought, frame_at, marks_at, with_bytes, emptied, line_laid, line_kept, has-remove_other, turned, KeepsPool, IsErrAnd, eq-eqb, ne_eqb, has_right, Word, Fine, ReadFailed, Fetching, Fetched, Broken, can't_be_read, fetches, Activity, IsUnread, IsBrokenOff, Touch, Want, pages_wanted, wants_of, nat_tests, Fetches, HasFetched}
+use Rattle.activations.proofs.Common.{IsSeen, asks_none, length-replicate, replicate, ◌⊎◌, inr, inl, not-true, or_parts, arith, ap, sym, ◌∙◌, subst, ltb-false, PageSize, Layout, byte_count, page_count, page_bytes, byte_count-lines, brought, has, has_left, overlaid, Ghosts, OnlyAsks, FewerLater, held_of, Standing, Stands, NotAStore, Damaged, stands, StoreView, Pool, private_frames, line_place, reach_of, IsClean, private_bytes, PoolFits, PoolKeeps, frame_filled, page_bytes_in, frame-high, laid-bytes, room-stays, emptied-stays, IsStoreOf, IsIn, IsPoolMoved, ◌≡◌, refl, ℕ, ◌+◌, ◌-◌, ◌*◌, ◌<◌, ◌≤◌, ◌==◌, ◌++◌, not, nat_lt, if◌then◌else◌, Bool, true, false, List, [], ◌∷◌, length, take, drop, fold, remove, position, unwrap_or, slice_index, Option, Some, None, option_to_list, Result, Ok, Err, OnOk, OnErr, take-append-le, take-take, length-append, length-take, Brought, frame_at, marks_at, with_bytes, pool_emptied, line_laid, line_kept, has-remove_other, turned, KeepsPool, IsErrAnd, eq-eqb, ne_eqb, has_right, DiskWord, Fine, ReadFailed, Fetching, Fetched, Broken, can't_be_read, fetches, Activity, IsUnread, IsBrokenOff, TouchedLines, Want, pages_wanted, wants_of, nat_tests, Fetches, HasFetched}
 use Rattle.std.proofs.lemmas.List.Quantifiers.{position-Some}
 use Rattle.store_format.proofs.Fronts.{shorter_front, later_front}
 use Rattle.store_format.proofs.Stores.{stands_is}
@@ -8,14 +8,14 @@ use Rattle.store.specs.Shows.{Shows}
 use Rattle.store.proofs.ShowLemmas.{sure_on, shown_store}
 use Rattle.frame_pool.proofs.SoundLemmas.{not-all-stay}
 use Rattle.storage_unit.specs.declared.unit.Unit.{Unit}
-use Rattle.storage_unit.specs.Incoming.{IsFilled, IsKept, HasGoneOut}
+use Rattle.storage_unit.specs.Incoming.{IsFilled, IsAllKept, HasGoneOut}
 use Rattle.storage_unit.proofs.BringKeeps.{bring-keeps, page_in-long}
 use Rattle.storage_unit.proofs.FailedBringKeeps.{failed-bring-keeps}
 use Rattle.store.specs.Shows as restart
 use Rattle.activations.proofs.PoolLemmas.{private-all, brought-one, brought-first, brought-second}
 
 -- a store stays open, with the same bytes, while the disk is only asked
-pub store-on : {W : Type 0} (G : Ghosts W) (fewer_later : FewerLater G) (store : KeptStore) (old new : W) (committed : List ℕ) → OnlyAsks G old new
+pub store-on : {W : Type 0} (G : Ghosts W) (fewer_later : FewerLater G) (store : StoreView) (old new : W) (committed : List ℕ) → OnlyAsks G old new
     → IsStoreOf G store old committed → IsStoreOf G store new committed
 store-on G fewer_later store old new committed asks is = record {
   tracks = record {
@@ -33,7 +33,7 @@ bytes_in (NotAStore offset) = []
 bytes_in (Damaged offset) = []
 
 -- what is committed in an open store is as long as its directory says
-pub committed-long : {W : Type 0} (G : Ghosts W) (store : KeptStore) (outside : W) (committed : List ℕ) → IsStoreOf G store outside committed
+pub committed-long : {W : Type 0} (G : Ghosts W) (store : StoreView) (outside : W) (committed : List ℕ) → IsStoreOf G store outside committed
     → length committed ≡ byte_count store.header.directory
 committed-long G store outside committed is =
     let stored = shown_store (held_of G outside) store is.tracks.shows in
@@ -44,7 +44,7 @@ committed-long G store outside committed is =
 
 -- a page that is read is that part of what is committed
 pub page-read : (standing : Standing) (number : ℕ) (directory : Layout) (committed : List ℕ) (page : ℕ) → standing ≡ Stands number (record { directory = directory; bytes = committed })
-    → restart.page_in standing page ≡ page_in directory committed page
+    → restart.page_in standing page ≡ page_bytes_in directory committed page
 page-read standing number directory committed page stood =
     let rest : page_bytes directory.page ≡ page * page_bytes directory.page + page_bytes directory.page - page * page_bytes directory.page = omega arith in
     ap (λ (s : Standing). restart.page_in s page) stood
@@ -69,7 +69,7 @@ front-laid page frame low (line ∷ lines) pool before inside =
 
 -- The pool once a page came into a frame that was filled with these bytes, and its kept lines lie over them.
 module _ (directory : Layout) (old new : Pool) (page : ℕ) (keep : Option ℕ) (frame : ℕ) (bytes : List ℕ)
-    (fits : Fits directory old) (also : Fits directory new) (came : Brought old new page keep frame) where
+    (fits : PoolFits directory old) (also : PoolFits directory new) (came : Brought old new page keep frame) where
   abbrev read : Pool
   read = with_bytes new (frame * page_bytes new.page) bytes
 
@@ -83,26 +83,26 @@ module _ (directory : Layout) (old new : Pool) (page : ℕ) (keep : Option ℕ) 
   front-read : (take 262144 read.bytes ≡ take 262144 new.bytes) × (262144 ≤ length read.bytes)
   front-read = front-over new.bytes (frame * page_bytes new.page) bytes 262144 (behind frame (subst (λ (s : PageSize). private_frames s ≤ frame) (fits.size ∙ sym also.size) came.above)) all-private
 
-  front-filled : take 262144 (filled new page frame bytes).bytes ≡ take 262144 read.bytes
+  front-filled : take 262144 (frame_filled new page frame bytes).bytes ≡ take 262144 read.bytes
   front-filled =
       let laid = λ (other : ℕ) (is : frame_at new page ≡ Some other). front-laid page other 262144 (marks_at new page) read (behind other (also.seen.above page other (also.seen.there page other is))) front-read.1 in
       grind (arith, laid)
 
-  pub moved-filled : IsMoved old (filled new page frame bytes)
+  pub moved-filled : IsPoolMoved old (frame_filled new page frame bytes)
   moved-filled =
       let stays = (room-stays old keep fits.seen).1 in let is = laid-bytes read page in record {
         marked = ap (λ (pool : Pool). pool.marked) is ∙ ap (λ (pool : Pool). pool.marked) came.rest ∙ stays.marked;
         private = λ seat few.
             let count : ℕ = seat * 16384 + 16384 - seat * 16384 in
-            later_front (seat * 16384) count (filled new page frame bytes).bytes old.bytes
-            (shorter_front (seat * 16384 + count) 262144 (filled new page frame bytes).bytes old.bytes
+            later_front (seat * 16384) count (frame_filled new page frame bytes).bytes old.bytes
+            (shorter_front (seat * 16384 + count) 262144 (frame_filled new page frame bytes).bytes old.bytes
             (front-filled ∙ front-read.0 ∙ ap (λ (pool : Pool). take 262144 pool.bytes) came.rest ∙ ap (λ (these : List ℕ). take 262144 these) stays.bytes) (omega (arith, few)));
         size = ap (λ (pool : Pool). pool.page) is ∙ ap (λ (pool : Pool). pool.page) came.rest ∙ stays.page;
         frames = ap (λ (pool : Pool). pool.frames) is ∙ ap (λ (pool : Pool). pool.frames) came.rest ∙ stays.frames;
       }
 
 -- pages that all go out
-pub moved-emptied : (old pool : Pool) → IsMoved old pool → IsMoved old (emptied pool)
+pub moved-emptied : (old pool : Pool) → IsPoolMoved old pool → IsPoolMoved old (pool_emptied pool)
 moved-emptied old pool moved =
     let stays = emptied-stays pool in record {
       marked = stays.marked ∙ moved.marked;
@@ -112,7 +112,7 @@ moved-emptied old pool moved =
     }
 
 -- pages that move twice
-pub moved-then : (old mid new : Pool) → IsMoved old mid → IsMoved mid new → IsMoved old new
+pub moved-then : (old mid new : Pool) → IsPoolMoved old mid → IsPoolMoved mid new → IsPoolMoved old new
 moved-then old mid new first second = record {
   marked = second.marked ∙ first.marked;
   private = λ seat few. second.private seat few ∙ first.private seat few;
@@ -161,20 +161,20 @@ either-way P Q R (Err fault) is not leads others = others not
 
 -- A unit into which a page comes.
 module _ (unit : Unit) (page : ℕ) (keep : Option ℕ) where
-  fits_first : Fits unit.directory (reach_of unit).pool
+  fits_first : PoolFits unit.directory (reach_of unit).pool
   fits_first = unit.fits
 
-  filled-moved : (bytes : List ℕ) (new : Pool) → IsFilled (reach_of unit) page keep bytes new → IsMoved (reach_of unit).pool new
-  filled-moved bytes new filling = subst (IsMoved (reach_of unit).pool) (sym filling.is) (moved-filled unit.directory (reach_of unit).pool filling.room page keep filling.frame bytes fits_first filling.fits filling.came)
+  filled-moved : (bytes : List ℕ) (new : Pool) → IsFilled (reach_of unit) page keep bytes new → IsPoolMoved (reach_of unit).pool new
+  filled-moved bytes new filling = subst (IsPoolMoved (reach_of unit).pool) (sym filling.is) (moved-filled unit.directory (reach_of unit).pool filling.room page keep filling.frame bytes fits_first filling.fits filling.came)
 
   -- it came in so: these bytes were read, or nothing was asked and each of its lines is kept
-  module _ {W : Type 0} (G : Ghosts W) (store : KeptStore) (old after : W) (new : Pool) where
+  module _ {W : Type 0} (G : Ghosts W) (store : StoreView) (old after : W) (new : Pool) where
     abbrev Came : Type 0
     Came =
         ((bytes : List ℕ)
         × (OnlyAsks G old after × (G.disk_faults after ≡ G.disk_faults old) × (restart.IsShown G store old → bytes ≡ restart.page_in (stands (held_of G old)) page))
         × IsFilled (reach_of unit) page keep bytes new)
-        ⊎ ((after ≡ old) × IsKept (reach_of unit) page keep new)
+        ⊎ ((after ≡ old) × IsAllKept (reach_of unit) page keep new)
 
     pub came-asked : Came → OnlyAsks G old after × (G.disk_faults after ≡ G.disk_faults old)
     came-asked (inl (_, asked, _)) = (asked.0, asked.1)
@@ -185,7 +185,7 @@ module _ (unit : Unit) (page : ℕ) (keep : Option ℕ) where
     came-filled (inr (same, kept)) =
         let size : ℕ = page_bytes unit.directory.page in (replicate size 0, kept.any (replicate size 0) (length-replicate size 0))
 
-    pub came-moved : Came → IsMoved (reach_of unit).pool new
+    pub came-moved : Came → IsPoolMoved (reach_of unit).pool new
     came-moved came = let (bytes, filling) = came-filled came in filled-moved bytes new filling
 
     pub came-resident : Came → new.resident ≡ brought (reach_of unit).pool.frames (option_to_list keep) (reach_of unit).pool.resident page
@@ -198,32 +198,32 @@ module _ (unit : Unit) (page : ℕ) (keep : Option ℕ) where
         long : length committed ≡ byte_count unit.directory
         long = committed-long G store old committed is ∙ ap byte_count same
 
-        filled-keeps : (bytes : List ℕ) → bytes ≡ page_in unit.directory committed page → IsFilled (reach_of unit) page keep bytes new → Keeps unit.directory (reach_of unit).pool new committed
+        filled-keeps : (bytes : List ℕ) → bytes ≡ page_bytes_in unit.directory committed page → IsFilled (reach_of unit) page keep bytes new → PoolKeeps unit.directory (reach_of unit).pool new committed
         filled-keeps bytes was filling =
-            subst (λ (pool : Pool). Keeps unit.directory (reach_of unit).pool pool committed)
-            (sym (filling.is ∙ ap (filled filling.room page filling.frame) was))
+            subst (λ (pool : Pool). PoolKeeps unit.directory (reach_of unit).pool pool committed)
+            (sym (filling.is ∙ ap (frame_filled filling.room page filling.frame) was))
             (bring-keeps unit.directory (reach_of unit).pool filling.room committed page keep filling.frame fits_first filling.fits long clean below absent filling.came)
 
-        by_way : Came → Keeps unit.directory (reach_of unit).pool new committed
+        by_way : Came → PoolKeeps unit.directory (reach_of unit).pool new committed
         by_way (inl (bytes, asked, filling)) = filled-keeps bytes
-            (asked.2 (record { told = is.tracks.sure.told; shows = is.tracks.shows }) ∙ page-read (stands (held_of G old)) is.number store.header.directory committed page is.stood ∙ ap (λ (d : Layout). page_in d committed page) same)
+            (asked.2 (record { told = is.tracks.sure.told; shows = is.tracks.shows }) ∙ page-read (stands (held_of G old)) is.number store.header.directory committed page is.stood ∙ ap (λ (d : Layout). page_bytes_in d committed page) same)
             filling
-        by_way (inr (unasked, kept)) = filled-keeps (page_in unit.directory committed page) refl (kept.any (page_in unit.directory committed page) (page_in-long unit.directory committed page long below))
+        by_way (inr (unasked, kept)) = filled-keeps (page_bytes_in unit.directory committed page) refl (kept.any (page_bytes_in unit.directory committed page) (page_in-long unit.directory committed page long below))
 
   -- it couldn't be read, and all pages went out
   module _ (new : Pool) (gone : HasGoneOut (reach_of unit) page keep new) where
-    pub out-moved : IsMoved (reach_of unit).pool new
-    out-moved = subst (IsMoved (reach_of unit).pool) (sym gone.out) (moved-emptied (reach_of unit).pool gone.between (filled-moved gone.bytes gone.between gone.was))
+    pub out-moved : IsPoolMoved (reach_of unit).pool new
+    out-moved = subst (IsPoolMoved (reach_of unit).pool) (sym gone.out) (moved-emptied (reach_of unit).pool gone.between (filled-moved gone.bytes gone.between gone.was))
 
     pub out-keeps : page < page_count unit.directory → has unit.pool.resident page ≡ false → (committed : List ℕ) → IsClean unit.directory (reach_of unit).pool committed
-        → Keeps unit.directory (reach_of unit).pool new committed
+        → PoolKeeps unit.directory (reach_of unit).pool new committed
     out-keeps below absent committed clean =
-        subst (λ (pool : Pool). Keeps unit.directory (reach_of unit).pool pool committed)
-        (sym (gone.out ∙ ap emptied gone.was.is))
+        subst (λ (pool : Pool). PoolKeeps unit.directory (reach_of unit).pool pool committed)
+        (sym (gone.out ∙ ap pool_emptied gone.was.is))
         (failed-bring-keeps unit.directory (reach_of unit).pool gone.was.room committed gone.bytes page keep gone.was.frame fits_first gone.was.fits clean below absent gone.was.came gone.was.long)
 
 -- what a page of several comes to, by whether it is resident and can be read
-abbrev fetched_by : (there fails : Bool) → Word → (frames : ℕ) → (kept pages resident : List ℕ) → (page counted : ℕ) → Fetching
+abbrev fetched_by : (there fails : Bool) → DiskWord → (frames : ℕ) → (kept pages resident : List ℕ) → (page counted : ℕ) → Fetching
 fetched_by there fails word frames kept pages resident page counted =
     if there
     then fetches word frames kept pages resident counted
@@ -243,7 +243,7 @@ module _ (old new : Pool) (page : ℕ) (keep : Option ℕ) (before after : ℕ) 
   in-later : before ≤ after
   in-later = let is = came.counted in grind (arith, is)
 
-  in-fetched : (word : Word) (kept pages : List ℕ) → (has old.resident page ≡ false → brought old.frames (option_to_list keep) old.resident page ≡ brought old.frames kept old.resident page)
+  in-fetched : (word : DiskWord) (kept pages : List ℕ) → (has old.resident page ≡ false → brought old.frames (option_to_list keep) old.resident page ≡ brought old.frames kept old.resident page)
       → (has old.resident page ≡ false → can't_be_read word (before + 1) ≡ false)
       → fetches word old.frames kept (page ∷ pages) old.resident before ≡ fetches word old.frames kept pages new.resident after
   in-fetched word kept pages same reads = let is = came.resident in let counted = came.counted in grind (arith, is, counted, same, reads)
@@ -281,7 +281,7 @@ module _ (old mid : Pool) (first second before between : ℕ) (came : IsIn old m
       grind (arith, nat_tests, inside, stays, rest)
 
 -- Over what runs, whose frames came to another pool, pages came in, or broke off.
-module _ {W : Type 0} (G : Ghosts W) (store : KeptStore) (outside : W) (a : Activity) (pages : List ℕ) (before after : ℕ) (new : Pool) (moved : IsMoved a.reach.pool new)
+module _ {W : Type 0} (G : Ghosts W) (store : StoreView) (outside : W) (a : Activity) (pages : List ℕ) (before after : ℕ) (new : Pool) (moved : IsPoolMoved a.reach.pool new)
     (keeps : KeepsPool G store outside a.reach.directory a.reach.pool new) where
   is-fetched : ((page : ℕ) → has pages page ≡ true → has new.resident page ≡ true)
       → fetches Fine a.reach.pool.frames pages pages a.reach.pool.resident before ≡ Fetched new.resident after → HasFetched G store outside a pages before new after
@@ -292,22 +292,22 @@ module _ {W : Type 0} (G : Ghosts W) (store : KeptStore) (outside : W) (a : Acti
   is-broken none counted broken committed order is clean = record { moved = moved; keeps = keeps committed is clean; none = none; counted = counted; broken = broken }
 
 -- no page
-pub none-fetched : {W : Type 0} (G : Ghosts W) (store : KeptStore) (outside : W) (a : Activity) (touch : Touch) (before : ℕ) → touch ≡ Touch.Nothing
+pub none-fetched : {W : Type 0} (G : Ghosts W) (store : StoreView) (outside : W) (a : Activity) (touch : TouchedLines) (before : ℕ) → touch ≡ TouchedLines.Nothing
     → HasFetched G store outside a (pages_wanted (wants_of touch)) before a.reach.pool before
 none-fetched G store outside a touch before is =
-    subst (λ (t : Touch). HasFetched G store outside a (pages_wanted (wants_of t)) before a.reach.pool before) (sym is)
+    subst (λ (t : TouchedLines). HasFetched G store outside a (pages_wanted (wants_of t)) before a.reach.pool before) (sym is)
     (is-fetched G store outside a [] before before a.reach.pool (record { marked = refl; private = λ seat few. refl; size = refl; frames = refl }) (λ committed is clean. record { same = refl; clean = clean })
     (λ page inside. absurd (cc (inside))) refl)
 
 -- pages of two steps keep what all see
-pub keeps-both : {W : Type 0} (G : Ghosts W) (fewer_later : FewerLater G) (store : KeptStore) (outside between : W) (directory : Layout) (old mid new : Pool) → OnlyAsks G outside between
+pub keeps-both : {W : Type 0} (G : Ghosts W) (fewer_later : FewerLater G) (store : StoreView) (outside between : W) (directory : Layout) (old mid new : Pool) → OnlyAsks G outside between
     → KeepsPool G store outside directory old mid → KeepsPool G store between directory mid new → KeepsPool G store outside directory old new
 keeps-both G fewer_later store outside between directory old mid new asks first second committed is clean =
     let one = first committed is clean in
     let two = second committed (store-on G fewer_later store outside between committed asks is) one.clean in
     record { same = two.same ∙ one.same; clean = two.clean }
 
-pub fetch-fails : {T E W : Type 0} (result : Result T E) (failed : E) → IsErrAnd result (λ told. told ≡ failed) → (G : Ghosts W) (store : KeptStore) (outside : W) (a : Activity) (pages : List ℕ) (before : ℕ) (new : Pool) (after : ℕ)
+pub fetch-fails : {T E W : Type 0} (result : Result T E) (failed : E) → IsErrAnd result (λ told. told ≡ failed) → (G : Ghosts W) (store : StoreView) (outside : W) (a : Activity) (pages : List ℕ) (before : ℕ) (new : Pool) (after : ℕ)
     → Fetches {T = T} (Err failed) G store outside a pages before new after → Fetches result G store outside a pages before new after
 fetch-fails (Ok it) failed told G store outside a pages before new after off = absurd told
 fetch-fails (Err is) failed told G store outside a pages before new after off = off
@@ -317,7 +317,7 @@ if-err P Q (Ok value) is leads = is
 if-err P Q (Err fault) is leads = leads is
 
 -- A touch of one page.
-one-comes : {T E W : Type 0} (G : Ghosts W) (store : KeptStore) (outside : W) (a : Activity) (new : Pool) (page before after : ℕ) → IsMoved a.reach.pool new → KeepsPool G store outside a.reach.directory a.reach.pool new
+one-comes : {T E W : Type 0} (G : Ghosts W) (store : StoreView) (outside : W) (a : Activity) (new : Pool) (page before after : ℕ) → IsPoolMoved a.reach.pool new → KeepsPool G store outside a.reach.directory a.reach.pool new
     → (result : Result T E) → OnOk result (IsIn a.reach.pool new page None before after) → OnErr result (IsUnread a.reach.pool new page before after) → Fetches result G store outside a (page ∷ []) before new after
 one-comes G store outside a new page before after moved keeps (Ok it) came not =
     is-fetched G store outside a (page ∷ []) before after new moved keeps (one-there a.reach.pool new page None before after came)
@@ -325,25 +325,25 @@ one-comes G store outside a new page before after moved keeps (Ok it) came not =
 one-comes G store outside a new page before after moved keeps (Err failed) came not =
     is-broken G store outside a (page ∷ []) before after new moved keeps not.none (omega (arith, not.counted)) (unread-broken a.reach.pool new page before after (page ∷ []) [] not)
 
-pub one-fetches : {T E W : Type 0} (G : Ghosts W) (store : KeptStore) (outside : W) (a : Activity) (new : Pool) (touch : Touch) (only : Want) → touch ≡ Touch.One only → (before after : ℕ)
-    → IsMoved a.reach.pool new → KeepsPool G store outside a.reach.directory a.reach.pool new → (result : Result T E) → OnOk result (IsIn a.reach.pool new only.page None before after)
+pub one-fetches : {T E W : Type 0} (G : Ghosts W) (store : StoreView) (outside : W) (a : Activity) (new : Pool) (touch : TouchedLines) (only : Want) → touch ≡ TouchedLines.One only → (before after : ℕ)
+    → IsPoolMoved a.reach.pool new → KeepsPool G store outside a.reach.directory a.reach.pool new → (result : Result T E) → OnOk result (IsIn a.reach.pool new only.page None before after)
     → OnErr result (IsUnread a.reach.pool new only.page before after) → Fetches result G store outside a (pages_wanted (wants_of touch)) before new after
 one-fetches G store outside a new touch only is before after moved keeps result came not =
-    subst (λ (t : Touch). Fetches result G store outside a (pages_wanted (wants_of t)) before new after) (sym is) (one-comes G store outside a new only.page before after moved keeps result came not)
+    subst (λ (t : TouchedLines). Fetches result G store outside a (pages_wanted (wants_of t)) before new after) (sym is) (one-comes G store outside a new only.page before after moved keeps result came not)
 
 -- And of two, the first of which came to a pool.
-module _ {W : Type 0} (G : Ghosts W) (store : KeptStore) (outside : W) (a : Activity) (mid : Pool) (touch : Touch) (first second : Want) (is : touch ≡ Touch.Two first second) (before between : ℕ)
-    (moved : IsMoved a.reach.pool mid) (keeps : KeepsPool G store outside a.reach.directory a.reach.pool mid) where
+module _ {W : Type 0} (G : Ghosts W) (store : StoreView) (outside : W) (a : Activity) (mid : Pool) (touch : TouchedLines) (first second : Want) (is : touch ≡ TouchedLines.Two first second) (before between : ℕ)
+    (moved : IsPoolMoved a.reach.pool mid) (keeps : KeepsPool G store outside a.reach.directory a.reach.pool mid) where
   pub first-broken : IsUnread a.reach.pool mid first.page before between
       → (committed : List ℕ) (order : List (ℕ × ℕ)) → IsStoreOf G store outside committed → IsClean a.reach.directory a.reach.pool committed → IsBrokenOff a committed order (pages_wanted (wants_of touch)) before mid between
   first-broken unread committed order is_store clean =
-      subst (λ (t : Touch). IsBrokenOff a committed order (pages_wanted (wants_of t)) before mid between) (sym is)
+      subst (λ (t : TouchedLines). IsBrokenOff a committed order (pages_wanted (wants_of t)) before mid between) (sym is)
       (is-broken G store outside a (first.page ∷ second.page ∷ []) before between mid moved keeps unread.none (omega (arith, unread.counted))
       (unread-broken a.reach.pool mid first.page before between (first.page ∷ second.page ∷ []) (second.page ∷ []) unread) committed order is_store clean)
 
   -- then the second
   module _ (fewer_later : FewerLater G) (later : W) (asks : OnlyAsks G outside later) (came : IsIn a.reach.pool mid first.page (Some second.page) before between) (directory : Layout) (same : directory ≡ a.reach.directory)
-      (new : Pool) (after : ℕ) (also : IsMoved mid new) (still : KeepsPool G store later directory mid new) where
+      (new : Pool) (after : ℕ) (also : IsPoolMoved mid new) (still : KeepsPool G store later directory mid new) where
     both-keep : KeepsPool G store outside a.reach.directory a.reach.pool new
     both-keep = keeps-both G fewer_later store outside later a.reach.directory a.reach.pool mid new asks keeps (subst (λ (d : Layout). KeepsPool G store later d mid new) same still)
 
@@ -358,4 +358,4 @@ module _ {W : Type 0} (G : Ghosts W) (store : KeptStore) (outside : W) (a : Acti
 
     pub two-fetch : {T E : Type 0} (result : Result T E) → OnOk result (IsIn mid new second.page (Some first.page) between after) → OnErr result (IsUnread mid new second.page between after)
         → Fetches result G store outside a (pages_wanted (wants_of touch)) before new after
-    two-fetch result came_then not = subst (λ (t : Touch). Fetches result G store outside a (pages_wanted (wants_of t)) before new after) (sym is) (two-come result came_then not)
+    two-fetch result came_then not = subst (λ (t : TouchedLines). Fetches result G store outside a (pages_wanted (wants_of t)) before new after) (sym is) (two-come result came_then not)

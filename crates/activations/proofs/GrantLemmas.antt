@@ -1,7 +1,7 @@
 -- Pages that are refused and granted, and what a seat holds once it has taken what it asked for.
-use Rattle.activations.proofs.Common.{length-map, ◌≡◌, refl, ℕ, zero, suc, ◌+◌, ◌*◌, ◌<◌, ◌≤◌, ◌==◌, if◌then◌else◌, Bool, true, false, List, [], ◌∷◌, filter, length, map, slice_set, range_with_len, arith, ap, sym, ◌∙◌, get_or-set_same, get_or-set_other, eqb-false, nat_tests, length-set, is_fine_page, passing, IsOfPage, has, within_page, is_whole_page, flat_lines, IsFlat, of_seat, held_at, Authority, unowned, grant_by, fine_grant_by, authority_given, authority_to_read, Activity, authority_at, authority_under, locks_in, IsSound, flat_authority, Grant, grant_of, slice_index_or, subst, inr, eq-eqb, or_left, or_right, All-cons, All-head, All-tail, Layout, of_page_where, Want, AreWithin, of_page, together, with_want, with_wants, taken-below, kept-took, same-with, other-with, Touch, AreOfPages, IsIdentified, AreSet, AreGranted, AreLowered, locked, with_entries, each_refused, pages_picked, pages_refused, stores_into, wants_of, with_whole_page, lowered-alike, granted-alike, ◌/◌, ◌%◌, ◌&&◌, ◌||◌, not, list_any-append, Lines, both, pages_of, with_whole_pages, has-append, has-filter, list_any, reaches, has-whole_pages, lines_wanted, flat-taken, AreAlike, owners_told, granted-told, lowered-told, alike-then, sitter, AreOfPage, number_under, is_lowered, pages_lowered, pages_wanted, Attempt, granted, lowered, or-false, ◌≢◌, All, All-nil, page_of_line, permits, has-page, nobody, refuses, refused_pages, touched_pages, lines_within, Ascend, refused-told, entries, desk_over, refuses_want, IsApart, lets, flat_map}
+use Rattle.activations.proofs.Common.{length-map, ◌≡◌, refl, ℕ, zero, suc, ◌+◌, ◌*◌, ◌<◌, ◌≤◌, ◌==◌, if◌then◌else◌, Bool, true, false, List, [], ◌∷◌, filter, length, map, slice_set, range_with_len, arith, ap, sym, ◌∙◌, get_or-set_same, get_or-set_other, eqb-false, nat_tests, length-set, is_fine_page, passing, IsOfPage, has, within_page, is_whole_page, flat_lines, IsFlat, of_seat, held_at, Authority, unowned, grant_by, fine_grant_by, authority_given, authority_to_read, Activity, authority_at, authority_under, locks_in, IsActivitySound, flat_authority, Grant, grant_of, slice_index_or, subst, inr, eq-eqb, or_left, or_right, All-cons, All-head, All-tail, Layout, of_page_where, Want, AreWithin, of_page, together, with_want, with_wants, taken-below, kept-took, same-with, other-with, TouchedLines, AreHeldOfPages, IsIdentified, AreSet, AreGranted, AreLowered, locked, with_entries, each_refused, pages_picked, pages_refused, stores_into, wants_of, with_whole_page, lowered-alike, granted-alike, ◌/◌, ◌%◌, ◌&&◌, ◌||◌, not, list_any-append, Lines, both, pages_of, with_whole_pages, has-append, has-filter, list_any, reaches, has-whole_pages, lines_wanted, flat-taken, AreAlike, owners_told, granted-told, lowered-told, alike-then, sitter, AreOfPage, number_under, is_lowered, pages_lowered, pages_wanted, InFlight, granted, lowered, or-false, ◌≢◌, All, All-nil, page_of_line, permits, has-page, nobody, refuses, refused_pages, touched_pages, lines_within, NumbersAscend, refused-told, entries, desk_over, refuses_want, IsWantApart, lets, flat_map}
 use Rattle.seats.specs.Holding.{taken as holding_more}
-use Rattle.desk.specs.Instruction.{given, with_each, to_read, lowered_pages}
+use Rattle.desk.specs.Instruction.{given_by_locks, with_each, to_read, lowered_pages}
 use Rattle.desk_law.proofs.EachPage.{each-alike}
 use Rattle.activations.proofs.HoldingLemmas.{held-flat, asked-alike, has-pages_wanted, whole-of-page, has-wanted}
 use Rattle.activations.proofs.TableLemmas.{map-range, under-page, stands-for}
@@ -36,7 +36,7 @@ flat-fine : (page tid : ℕ) (storing : Bool) (reads writes : List ℕ) → flat
 flat-fine page tid true reads writes = refl
 flat-fine page tid false reads writes = grind (arith, flat-whole, flat-granted)
 
-module _ (a : Activity) (seat page : ℕ) (sound : IsSound a) where
+module _ (a : Activity) (seat page : ℕ) (sound : IsActivitySound a) where
   flat : IsFlat (of_seat a.seating.holding seat) (locks_in a seat)
   flat = held-flat (of_seat a.seating.holding seat) (sound.lines seat)
 
@@ -90,7 +90,7 @@ set-keeps P (x ∷ xs) (suc place) zero value other new old = old
 set-keeps P (x ∷ xs) (suc place) (suc at) value other new old = set-keeps P xs place at value other new old
 
 -- what is held of a page and wanted of it are lines of it
-more-of-pages : (pages : List (List ℕ × List ℕ)) (wants : List Want) → AreOfPages pages → AreOfPages (with_wants pages wants)
+more-of-pages : (pages : List (List ℕ × List ℕ)) (wants : List Want) → AreHeldOfPages pages → AreHeldOfPages (with_wants pages wants)
 more-of-pages pages [] of = of
 more-of-pages pages (want ∷ wants) of = more-of-pages (with_want pages want) wants (record {
   reads = λ page. set-keeps (λ held. IsOfPage held.0) pages want.page page (together (of_page pages want.page) want) ([], []) (of_page_where _) (of.reads page);
@@ -106,15 +106,15 @@ within-whole directory pages (want ∷ wants) within =
     (within-whole directory pages wants (All-tail (λ (w : Want). w.page < pages) want wants within))
 
 -- the pages of a touch are within those of the store
-pub one_within : (pages : ℕ) (touch : Touch) (want : Want) → AreWithin pages (wants_of touch) → touch ≡ Touch.One want → want.page < pages
-one_within pages touch want within is = All-head (λ (w : Want). w.page < pages) want [] (subst (λ (t : Touch). AreWithin pages (wants_of t)) is within)
+pub one_within : (pages : ℕ) (touch : TouchedLines) (want : Want) → AreWithin pages (wants_of touch) → touch ≡ TouchedLines.One want → want.page < pages
+one_within pages touch want within is = All-head (λ (w : Want). w.page < pages) want [] (subst (λ (t : TouchedLines). AreWithin pages (wants_of t)) is within)
 
-pub first_within : (pages : ℕ) (touch : Touch) (first second : Want) → AreWithin pages (wants_of touch) → touch ≡ Touch.Two first second → first.page < pages
-first_within pages touch first second within is = All-head (λ (w : Want). w.page < pages) first (second ∷ []) (subst (λ (t : Touch). AreWithin pages (wants_of t)) is within)
+pub first_within : (pages : ℕ) (touch : TouchedLines) (first second : Want) → AreWithin pages (wants_of touch) → touch ≡ TouchedLines.Two first second → first.page < pages
+first_within pages touch first second within is = All-head (λ (w : Want). w.page < pages) first (second ∷ []) (subst (λ (t : TouchedLines). AreWithin pages (wants_of t)) is within)
 
-pub second_within : (pages : ℕ) (touch : Touch) (first second : Want) → AreWithin pages (wants_of touch) → touch ≡ Touch.Two first second → second.page < pages
+pub second_within : (pages : ℕ) (touch : TouchedLines) (first second : Want) → AreWithin pages (wants_of touch) → touch ≡ TouchedLines.Two first second → second.page < pages
 second_within pages touch first second within is = All-head (λ (w : Want). w.page < pages) second []
-    (All-tail (λ (w : Want). w.page < pages) first (second ∷ []) (subst (λ (t : Touch). AreWithin pages (wants_of t)) is within))
+    (All-tail (λ (w : Want). w.page < pages) first (second ∷ []) (subst (λ (t : TouchedLines). AreWithin pages (wants_of t)) is within))
 
 -- entries that are set look at what is told of each page alone
 pub set-same : (of other : ℕ → Grant) (pages : List ℕ) (old new : List Authority) → ((page : ℕ) → has pages page ≡ true → of page ≡ other page) → AreSet of pages old new → AreSet other pages old new
@@ -160,19 +160,19 @@ set-identified taken seat of (page ∷ pages) old new inside owner (one, entry, 
     (λ other. set-keeps (IsIdentified taken) old page other one unowned (inr (seat, inside, ap (λ (e : Grant). e.owner) entry ∙ owner page)) (was other))
 
 -- Pages that a taken seat gets leave all sound.
-pub set-sound : (a : Activity) (seat : ℕ) (of : ℕ → Grant) (pages : List ℕ) (owned : List Authority) → IsSound a → has a.seating.taken seat ≡ true → ((page : ℕ) → (of page).owner ≡ seat + 1)
-    → AreSet of pages a.reach.entries owned → IsSound (with_entries a owned)
+pub set-sound : (a : Activity) (seat : ℕ) (of : ℕ → Grant) (pages : List ℕ) (owned : List Authority) → IsActivitySound a → has a.seating.taken seat ≡ true → ((page : ℕ) → (of page).owner ≡ seat + 1)
+    → AreSet of pages a.reach.entries owned → IsActivitySound (with_entries a owned)
 set-sound a seat of pages owned sound taken owner is =
     sound-beside a a.next a.reach.pool owned a.reach.registers a.reach.runner sound sound.numbers (set-length of pages a.reach.entries owned is ∙ sound.entries)
     (set-identified a.seating.taken seat of pages a.reach.entries owned taken owner is sound.identified)
 
 -- one page
-pub one-sound : (a : Activity) (seat page : ℕ) (one : Authority) → IsSound a → has a.seating.taken seat ≡ true → (grant_of one).owner ≡ seat + 1 → IsSound (with_entries a (slice_set a.reach.entries page one))
+pub one-sound : (a : Activity) (seat page : ℕ) (one : Authority) → IsActivitySound a → has a.seating.taken seat ≡ true → (grant_of one).owner ≡ seat + 1 → IsActivitySound (with_entries a (slice_set a.reach.entries page one))
 one-sound a seat page one sound taken owner = set-sound a seat (λ _. grant_of one) (page ∷ []) (slice_set a.reach.entries page one) sound taken (λ _. owner) (one, refl, refl)
 
 -- Who holds what he asked for, with the pages that are granted, leaves all sound.
-pub taken-sound : (a : Activity) (seat : ℕ) (wants : List Want) (pages : List ℕ) (owned : List Authority) → IsSound a → has a.seating.taken seat ≡ true
-    → AreGranted (locked a seat wants owned) seat wants pages a.reach.entries owned → IsSound (locked a seat wants owned)
+pub taken-sound : (a : Activity) (seat : ℕ) (wants : List Want) (pages : List ℕ) (owned : List Authority) → IsActivitySound a → has a.seating.taken seat ≡ true
+    → AreGranted (locked a seat wants owned) seat wants pages a.reach.entries owned → IsActivitySound (locked a seat wants owned)
 taken-sound a seat wants pages owned sound taken is =
     let below : seat < 16 = taken-below a.seating sound.seating seat taken in
     let more : List (List ℕ × List ℕ) = with_wants (of_seat a.seating.holding seat) (map (with_whole_page a.reach.directory) wants) in
@@ -182,9 +182,9 @@ taken-sound a seat wants pages owned sound taken is =
       numbers = sound.numbers;
       live = sound.live;
       pages = sound.pages;
-      lines = each_seat {P = λ at. AreOfPages (of_seat (holding_more a.seating.holding seat (map (with_whole_page a.reach.directory) wants)) at)} seat
-          (subst AreOfPages (sym (same-with a.seating.holding seat more sound.seating.whole below)) (more-of-pages (of_seat a.seating.holding seat) (map (with_whole_page a.reach.directory) wants) (sound.lines seat)))
-          (λ at e. subst AreOfPages (sym (other-with a.seating.holding seat more sound.seating.whole at e)) (sound.lines at));
+      lines = each_seat {P = λ at. AreHeldOfPages (of_seat (holding_more a.seating.holding seat (map (with_whole_page a.reach.directory) wants)) at)} seat
+          (subst AreHeldOfPages (sym (same-with a.seating.holding seat more sound.seating.whole below)) (more-of-pages (of_seat a.seating.holding seat) (map (with_whole_page a.reach.directory) wants) (sound.lines seat)))
+          (λ at e. subst AreHeldOfPages (sym (other-with a.seating.holding seat more sound.seating.whole at e)) (sound.lines at));
       requests = sound.requests;
       begun = sound.begun;
       entries = set-length (λ page. authority_given (locked a seat wants owned) seat (stores_into wants page) page) pages a.reach.entries owned is ∙ sound.entries;
@@ -196,10 +196,10 @@ taken-sound a seat wants pages owned sound taken is =
     }
 
 -- The pages of a touch that are picked where its entry refuses them are those that are refused.
-pub picked-refused : (owned : List Authority) (tid : ℕ) (touch : Touch) → pages_picked touch (each_refused owned tid touch) ≡ pages_refused owned tid (wants_of touch)
-picked-refused owned tid Touch.Nothing = refl
-picked-refused owned tid (Touch.One want) = grind arith
-picked-refused owned tid (Touch.Two first second) = grind arith
+pub picked-refused : (owned : List Authority) (tid : ℕ) (touch : TouchedLines) → pages_picked touch (each_refused owned tid touch) ≡ pages_refused owned tid (wants_of touch)
+picked-refused owned tid TouchedLines.Nothing = refl
+picked-refused owned tid (TouchedLines.One want) = grind arith
+picked-refused owned tid (TouchedLines.Two first second) = grind arith
 
 -- two sets of flat lines of the same pages are alike
 pub flat-alike : (pages : List (List ℕ × List ℕ)) (one other : Lines) → IsFlat pages one → IsFlat pages other → AreAlike one other
@@ -232,9 +232,9 @@ whole-both fine one other = record {
 }
 
 -- what is taken is held beside what was held,
-pub taken-both : (a : Activity) (seat : ℕ) (wants : List Want) (entries : List Authority) → IsSound a → seat < 16
+pub taken-both : (a : Activity) (seat : ℕ) (wants : List Want) (entries : List Authority) → IsActivitySound a → seat < 16
     → AreOfPage wants → AreWithin (length (of_seat a.seating.holding seat)) (map (with_whole_page a.reach.directory) wants)
-    → AreOfPages (of_seat (locked a seat wants entries).seating.holding seat)
+    → AreHeldOfPages (of_seat (locked a seat wants entries).seating.holding seat)
     → AreAlike (locks_in (locked a seat wants entries) seat) (both (locks_in a seat) (lines_wanted (map (with_whole_page a.reach.directory) wants)))
 taken-both a seat wants entries sound below sets inside of =
     flat-alike (with_wants (of_seat a.seating.holding seat) (map (with_whole_page a.reach.directory) wants)) (locks_in (locked a seat wants entries) seat) (both (locks_in a seat) (lines_wanted (map (with_whole_page a.reach.directory) wants)))
@@ -245,9 +245,9 @@ taken-both a seat wants entries sound below sets inside of =
     holds = same-with a.seating.holding seat (with_wants (of_seat a.seating.holding seat) (map (with_whole_page a.reach.directory) wants)) sound.seating.whole below
 
 -- with the whole pages that are written into
-pub taken-alike : (a : Activity) (seat : ℕ) (wants : List Want) (entries : List Authority) (within : Lines) → IsSound a → seat < 16
+pub taken-alike : (a : Activity) (seat : ℕ) (wants : List Want) (entries : List Authority) (within : Lines) → IsActivitySound a → seat < 16
     → AreOfPage wants → AreWithin (length (of_seat a.seating.holding seat)) (map (with_whole_page a.reach.directory) wants)
-    → AreOfPages (of_seat (locked a seat wants entries).seating.holding seat)
+    → AreHeldOfPages (of_seat (locked a seat wants entries).seating.holding seat)
     → AreAlike (locks_in a seat) (with_whole_pages (is_fine_page a.reach.directory) within)
     → AreAlike (locks_in (locked a seat wants entries) seat) (with_whole_pages (is_fine_page a.reach.directory) (both within (lines_wanted wants)))
 taken-alike a seat wants entries within sound below sets inside of alike =
@@ -269,9 +269,9 @@ set-under of told (page ∷ pages) old new below same (one, entry, rest) =
     (under-set old page one (below page (or_left (page == page) (has pages page) (eq-eqb page page refl)))
     ∙ ap (slice_set (authority_under old) page) (ap (flat_authority page) entry ∙ same page (or_left (page == page) (has pages page) (eq-eqb page page refl))))
 
-module _ (a : Activity) (seat : ℕ) (attempt : Attempt) (locks : Lines) (wants : List Want) (sound : IsSound a) (number : attempt.entry.number ≡ (sitter a.seating seat).number)
+module _ (a : Activity) (seat : ℕ) (attempt : InFlight) (locks : Lines) (wants : List Want) (sound : IsActivitySound a) (number : attempt.entry.number ≡ (sitter a.seating seat).number)
     (lines : attempt.lines ≡ lines_wanted wants) (sets : AreOfPage wants) (alike : AreAlike (locks_in a seat) locks) where
-  abbrev under : Attempt
+  abbrev under : InFlight
   under = record attempt { entry = record attempt.entry { number = seat + 1 } }
 
   number-is : number_under a (seat + 1) ≡ attempt.entry.number
@@ -285,7 +285,7 @@ module _ (a : Activity) (seat : ℕ) (attempt : Attempt) (locks : Lines) (wants 
   pub granted-all : (pages : List ℕ) (old new : List Authority) → ((page : ℕ) → has pages page ≡ true → page < length old) → AreGranted a seat wants pages old new
       → owners_told (number_under a) (authority_under new) ≡ granted (is_fine_page a.reach.directory) attempt locks pages (owners_told (number_under a) (authority_under old))
   granted-all pages old new below is = ap (owners_told (number_under a))
-      (set-under (λ page. authority_given a seat (stores_into wants page) page) (given (is_fine_page a.reach.directory) (record attempt { entry = record attempt.entry { number = seat + 1 } }) (locks_in a seat)) pages old new below
+      (set-under (λ page. authority_given a seat (stores_into wants page) page) (given_by_locks (is_fine_page a.reach.directory) (record attempt { entry = record attempt.entry { number = seat + 1 } }) (locks_in a seat)) pages old new below
       (λ page inside.
       granted-page a seat page sound (stores_into wants page) ∙ ap
       (λ (storing : Bool).
@@ -326,7 +326,7 @@ any-refused page tid entry store (line ∷ set) =
     λ i. not (permits (entry.owner == tid) entry.write (has-page page line entry.lines i) store) || any-refused page tid entry store set i
 
 -- one page
-refused-one : (owned : List Authority) (tid : ℕ) (wants : List Want) (want : Want) → IsApart wants want → IsOfPage want.reads → IsOfPage want.writes
+refused-one : (owned : List Authority) (tid : ℕ) (wants : List Want) (want : Want) → IsWantApart wants want → IsOfPage want.reads → IsOfPage want.writes
     → refuses (slice_index_or (authority_under owned) want.page nobody) tid (lines_within want.page (lines_wanted wants)) ≡ refuses_want owned tid want
 refused-one owned tid wants want apart reads writes =
     let writes-are : flat_lines want.page want.writes ≡ within_page want.page (lines_wanted wants).writes = flat-within want.page want.writes (lines_wanted wants).writes writes apart.writes in
@@ -335,13 +335,13 @@ refused-one owned tid wants want apart reads writes =
     ∙ (λ i. any-refused want.page tid (grant_of (slice_index_or owned want.page unowned)) false want.reads i || any-refused want.page tid (grant_of (slice_index_or owned want.page unowned)) true want.writes i)
 
 -- and each of some
-refused-some : (owned : List Authority) (tid : ℕ) (wants some : List Want) → All (IsApart wants) some → All (λ want. IsOfPage want.reads) some → All (λ want. IsOfPage want.writes) some
+refused-some : (owned : List Authority) (tid : ℕ) (wants some : List Want) → All (IsWantApart wants) some → All (λ want. IsOfPage want.reads) some → All (λ want. IsOfPage want.writes) some
     → filter (λ page. refuses (slice_index_or (authority_under owned) page nobody) tid (lines_within page (lines_wanted wants))) (pages_wanted some) ≡ pages_refused owned tid some
 refused-some owned tid wants [] apart reads writes = refl
 refused-some owned tid wants (want ∷ some) apart reads writes =
     step (refuses (slice_index_or (authority_under owned) want.page nobody) tid (lines_within want.page (lines_wanted wants))) (refuses_want owned tid want)
-    (refused-one owned tid wants want (All-head (IsApart wants) want some apart) (All-head (λ (w : Want). IsOfPage w.reads) want some reads) (All-head (λ (w : Want). IsOfPage w.writes) want some writes))
-    (refused-some owned tid wants some (All-tail (IsApart wants) want some apart) (All-tail (λ (w : Want). IsOfPage w.reads) want some reads) (All-tail (λ (w : Want). IsOfPage w.writes) want some writes))
+    (refused-one owned tid wants want (All-head (IsWantApart wants) want some apart) (All-head (λ (w : Want). IsOfPage w.reads) want some reads) (All-head (λ (w : Want). IsOfPage w.writes) want some writes))
+    (refused-some owned tid wants some (All-tail (IsWantApart wants) want some apart) (All-tail (λ (w : Want). IsOfPage w.reads) want some reads) (All-tail (λ (w : Want). IsOfPage w.writes) want some writes))
   where
     step : (a b : Bool) → a ≡ b
         → filter (λ page. refuses (slice_index_or (authority_under owned) page nobody) tid (lines_within page (lines_wanted wants))) (pages_wanted some) ≡ pages_refused owned tid some
@@ -350,9 +350,9 @@ refused-some owned tid wants (want ∷ some) apart reads writes =
     step a b e rest = grind (arith, e, rest)
 
 -- The pages that the desk refuses are those that the entries refuse the seat.
-pub refused-are : (a : Activity) (seat : ℕ) (committed : List ℕ) (order : List (ℕ × ℕ)) (attempt : Attempt) (wants : List Want) → IsSound a → Ascend 0 (entries a) a.next
+pub refused-are : (a : Activity) (seat : ℕ) (committed : List ℕ) (order : List (ℕ × ℕ)) (attempt : InFlight) (wants : List Want) → IsActivitySound a → NumbersAscend 0 (entries a) a.next
     → has a.seating.taken seat ≡ true → attempt.entry.number ≡ (sitter a.seating seat).number → attempt.lines ≡ lines_wanted wants → touched_pages attempt ≡ pages_wanted wants
-    → All (IsApart wants) wants → AreOfPage wants
+    → All (IsWantApart wants) wants → AreOfPage wants
     → refused_pages attempt (desk_over a committed order) ≡ pages_refused a.reach.entries (seat + 1) wants
 refused-are a seat committed order attempt wants sound ascend taken number lines pages apart sets =
     (λ i. filter (λ page. refuses (slice_index_or (desk_over a committed order).authority page nobody) (number i) (lines_within page (lines i))) (pages i))
@@ -370,17 +370,17 @@ off-page other page line set below differs =
     let lies : (page * 16 + line) / 16 ≡ page = omega (arith, below) in grind (arith, nat_tests, lies, differs)
 
 -- one want is apart
-pub apart-one : (want : Want) → AreOfPage (want ∷ []) → All (IsApart (want ∷ [])) (want ∷ [])
-apart-one want sets = All-cons (IsApart (want ∷ [])) want [] (record {
+pub apart-one : (want : Want) → AreOfPage (want ∷ []) → All (IsWantApart (want ∷ [])) (want ∷ [])
+apart-one want sets = All-cons (IsWantApart (want ∷ [])) want [] (record {
   reads = λ line below. has-wanted (λ w. w.reads) (want ∷ []) (want.page * 16 + line) sets.reads ∙ or-false _ ∙ at-page want.page line want.reads below;
   writes = λ line below. has-wanted (λ w. w.writes) (want ∷ []) (want.page * 16 + line) sets.writes ∙ or-false _ ∙ at-page want.page line want.writes below;
-}) (All-nil (IsApart (want ∷ [])))
+}) (All-nil (IsWantApart (want ∷ [])))
 
 -- and two of different pages are
-pub apart-two : (first second : Want) → AreOfPage (first ∷ second ∷ []) → first.page ≢ second.page → All (IsApart (first ∷ second ∷ [])) (first ∷ second ∷ [])
+pub apart-two : (first second : Want) → AreOfPage (first ∷ second ∷ []) → first.page ≢ second.page → All (IsWantApart (first ∷ second ∷ [])) (first ∷ second ∷ [])
 apart-two first second sets differs =
-    All-cons (IsApart (first ∷ second ∷ [])) first (second ∷ []) (record { reads = one (λ w. w.reads) sets.reads; writes = one (λ w. w.writes) sets.writes })
-    (All-cons (IsApart (first ∷ second ∷ [])) second [] (record { reads = other (λ w. w.reads) sets.reads; writes = other (λ w. w.writes) sets.writes }) (All-nil (IsApart (first ∷ second ∷ []))))
+    All-cons (IsWantApart (first ∷ second ∷ [])) first (second ∷ []) (record { reads = one (λ w. w.reads) sets.reads; writes = one (λ w. w.writes) sets.writes })
+    (All-cons (IsWantApart (first ∷ second ∷ [])) second [] (record { reads = other (λ w. w.reads) sets.reads; writes = other (λ w. w.writes) sets.writes }) (All-nil (IsWantApart (first ∷ second ∷ []))))
   where
     one : (part : Want → List ℕ) → All (λ w. IsOfPage (part w)) (first ∷ second ∷ []) → (line : ℕ) → line < 16
         → has (flat_map (λ w. flat_lines w.page (part w)) (first ∷ second ∷ [])) (first.page * 16 + line) ≡ has (part first) line

@@ -1,5 +1,5 @@
 -- What a seat holds and what an access asks for, page by page and as flat lines, and how many lines will have been written.
-use Rattle.activations.proofs.Common.{◌≡◌, ◌≢◌, refl, ℕ, zero, suc, ◌+◌, ◌*◌, ◌<◌, ◌≤◌, ◌||◌, true, false, List, [], length, flat_map, range_with_len, arith, ap, sym, ◌∙◌, nat_tests, get_or_past, of_page-below, has, has-append, of_page, nothing, flat_lines, IsFlat, has-page, has-other_page, lines_held, AreOfPages, inl, inr, cases_lt, and-false, ◌/◌, ◌%◌, ◌==◌, ◌&&◌, not, nat_le, ◌∷◌, All, map, list_any, All-cons, All-head, All-tail, list_any-append, Layout, is_fine_page, IsOfPage, between, of_page_where, is_in_where-below, page_of_line, pages_of, with_whole_pages, has-pages_of, any-or, has-whole_pages, Want, lines_wanted, AreAlike, AreOfPage, with_whole_page, cond_both, ◌++◌, filter, sum_by, eqb-true, and_parts, append-nil, length-map, sum_by-cons, All-nil, passing, difference, distinct, size, has-filter, size-alike, size-apart, size-append, size-counted, write_count, and_left}
+use Rattle.activations.proofs.Common.{◌≡◌, ◌≢◌, refl, ℕ, zero, suc, ◌+◌, ◌*◌, ◌<◌, ◌≤◌, ◌||◌, true, false, List, [], length, flat_map, range_with_len, arith, ap, sym, ◌∙◌, nat_tests, get_or_past, of_page-below, has, has-append, of_page, nothing, flat_lines, IsFlat, has-page, has-other_page, lines_held, AreHeldOfPages, inl, inr, cases_lt, and-false, ◌/◌, ◌%◌, ◌==◌, ◌&&◌, not, nat_le, ◌∷◌, All, map, list_any, All-cons, All-head, All-tail, list_any-append, Layout, is_fine_page, IsOfPage, between, of_page_where, is_in_where-below, page_of_line, pages_of, with_whole_pages, has-pages_of, any-or, has-whole_pages, Want, lines_wanted, AreAlike, AreOfPage, with_whole_page, cond_both, ◌++◌, filter, sum_by, eqb-true, and_parts, append-nil, length-map, sum_by-cons, All-nil, passing, difference, distinct, size, has-filter, size-alike, size-apart, size-append, size-counted, write_count, and_left}
 
 -- lines of pages from a first on, none of which is this page
 pub flat-apart : (sets : ℕ → List ℕ) (from n page line : ℕ) → ((p x : ℕ) → has (sets p) x ≡ true → x < 16) → line < 16 → ((p : ℕ) → from ≤ p → p < from + n → page ≢ p)
@@ -23,7 +23,7 @@ flat-among sets from (suc n) page line few below first last =
     grind (arith, nat_tests, more, here, others, apart, rest)
 
 -- what is held page by page is these flat lines
-pub held-flat : (pages : List (List ℕ × List ℕ)) → AreOfPages pages → IsFlat pages (lines_held pages)
+pub held-flat : (pages : List (List ℕ × List ℕ)) → AreHeldOfPages pages → IsFlat pages (lines_held pages)
 held-flat pages few = record {
   reads = λ page line below. one (λ held. held.0) refl (λ p x inside. of_page-below (of_page pages p).0 (few.reads p) x inside) page line below;
   writes = λ page line below. one (λ held. held.1) refl (λ p x inside. of_page-below (of_page pages p).1 (few.writes p) x inside) page line below;
@@ -181,7 +181,7 @@ counted-from f (x ∷ xs) g from same =
     + counted-from f xs g (from + 1) (λ k below. let next : from + 1 + k ≡ from + suc k = omega arith in ap g next ∙ same (suc k) (omega (arith, below))) i)
     ∙ sym (sum_by-cons f x xs)
 
-pub size-held : (pages : List (List ℕ × List ℕ)) → AreOfPages pages → size (lines_held pages).writes ≡ write_count pages
+pub size-held : (pages : List (List ℕ × List ℕ)) → AreHeldOfPages pages → size (lines_held pages).writes ≡ write_count pages
 size-held pages of = size-blocks (λ p. (of_page pages p).1) of.writes 0 (length pages)
     ∙ counted-from (λ held. length held.1) pages (of_page pages) 0 (λ k below. let whole : 0 + k ≡ k = omega arith in ap (of_page pages) whole)
 
@@ -197,7 +197,7 @@ all-new pages [] = All-nil (λ (want : Want). IsOfPage (new_lines pages want))
 all-new pages (want ∷ wants) = All-cons (λ (want : Want). IsOfPage (new_lines pages want)) want wants (new-of-page pages want) (all-new pages wants)
 
 -- those wanted lines that aren't held are the new ones
-new-are : (pages : List (List ℕ × List ℕ)) (wants : List Want) → AreOfPages pages → AreOfPage wants
+new-are : (pages : List (List ℕ × List ℕ)) (wants : List Want) → AreHeldOfPages pages → AreOfPage wants
     → size (filter (λ line. not (has (lines_held pages).writes line)) (lines_wanted wants).writes) ≡ size (flat_map (λ want. flat_lines want.page (new_lines pages want)) wants)
 new-are pages wants of sets =
     size-alike (filter (λ line. not (has (lines_held pages).writes line)) (lines_wanted wants).writes) (flat_map (λ want. flat_lines want.page (new_lines pages want)) wants)
@@ -224,7 +224,7 @@ new-are pages wants of sets =
         ∙ sym (has-wanted (new_lines pages) wants line (all-new pages wants))
 
 -- How many lines are written with those of no want, of one, and of two of different pages.
-module _ (pages : List (List ℕ × List ℕ)) (of : AreOfPages pages) where
+module _ (pages : List (List ℕ × List ℕ)) (of : AreHeldOfPages pages) where
   with-new : (wants : List Want) → AreOfPage wants
       → size ((lines_held pages).writes ++ (lines_wanted wants).writes) ≡ write_count pages + size (flat_map (λ want. flat_lines want.page (new_lines pages want)) wants)
   with-new wants sets = size-append (lines_held pages).writes (lines_wanted wants).writes ∙ (λ i. size-held pages of i + new-are pages wants of sets i)

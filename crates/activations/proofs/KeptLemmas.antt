@@ -1,5 +1,5 @@
 -- What stays while those that run are served: of a rollback of another, and one after another.
-use Rattle.activations.proofs.Common.{◌≡◌, refl, ℕ, ◌+◌, ◌≤◌, ◌==◌, not, if◌then◌else◌, Bool, true, false, List, [], ◌∷◌, filter, length, None, replicate, Result, Ok, Err, OnOk, arith, ap, sym, ◌∙◌, subst, has, has-filter, ArrayVec, Cycle, Pool, Tally, Activity, IsSelected, TookEffect, HasUndone, KeepsParts, StandsStill, StaysSeated, Want, Authority, cleared_entry, unowned, map, slice_index_or, slice_range, zero, suc, ◌*◌, locked, rolled, with_pool, Ghosts, FewerLater, asks_on, nat_tests, KeepsAll, IfErr, IsErrAnd, Rose, TurnEnd, EndsRows, EndsByDisk, ComesOut, Instructs, KeptStore, Word, Turning, Counts, CanFetch, Layout, OnlyAsks, asks_only, total}
+use Rattle.activations.proofs.Common.{◌≡◌, refl, ℕ, ◌+◌, ◌≤◌, ◌==◌, not, if◌then◌else◌, Bool, true, false, List, [], ◌∷◌, filter, length, None, replicate, Result, Ok, Err, OnOk, arith, ap, sym, ◌∙◌, subst, has, has-filter, ArrayVec, Cycle, Pool, Tally, Activity, IsSeatSelected, TookEffect, HasUndone, KeepsParts, StandsStill, StaysSeated, Want, Authority, cleared_entry, unowned, map, slice_index_or, slice_range, zero, suc, ◌*◌, locked, rolled, with_other_pool, Ghosts, FewerLater, asks_on, nat_tests, KeepsAll, IfErr, IsErrAnd, Rose, TurnEnd, EndsRows, EndsByDisk, ComesOut, Instructs, StoreView, DiskWord, Turning, Counts, CanFetch, Layout, OnlyAsks, asks_only, total}
 
 -- none more are left of those but one
 pub no-more : (taken : List ℕ) (seat : ℕ) → length (filter (λ other. not (other == seat)) taken) ≤ length taken
@@ -7,7 +7,7 @@ no-more [] seat = omega arith
 no-more (one ∷ taken) seat = grind (arith, no-more taken seat)
 
 -- whatever its frames hold
-pub keeps-pool : (a : Activity) (pool : Pool) → KeepsParts a (with_pool a pool) 0
+pub keeps-pool : (a : Activity) (pool : Pool) → KeepsParts a (with_other_pool a pool) 0
 keeps-pool a pool = record { programs = refl; most_lines = refl; next = refl; directory = refl; fewer = omega arith; rows = λ rows within seat below. let here = within seat below in omega (arith, here) }
 
 pub keeps-itself : (a : Activity) → KeepsParts a a 0
@@ -38,7 +38,7 @@ stays-rolled first a seat loser pool stays inside = record {
   taken = inside;
   number = stays.number;
   selected = λ is.
-      let was : IsSelected a seat = stays.selected is in
+      let was : IsSeatSelected a seat = stays.selected is in
       let other : (a.reach.runner == loser + 1) ≡ false = apart was.runner in record {
         runner = ap (λ (b : Bool). if b then 0 else a.reach.runner) other ∙ was.runner;
         registers = ap (λ (b : Bool). if b then record { page = a.reach.directory.page; list = replicate 16 None } else a.reach.registers) other ∙ was.registers;
@@ -104,9 +104,9 @@ keeps-took a after seat took =
 pub keeps-left : (a after : Activity) (seat : ℕ) (pool : Pool) → after ≡ rolled a seat pool → KeepsParts a after 0
 keeps-left a after seat pool shape = subst (λ (x : Activity). KeepsParts a x 0) (sym shape) (keeps-rolled a a seat 0 pool (keeps-itself a))
 
-pub keeps-broke : (a after : Activity) (seat : ℕ) (between pool : Pool) → after ≡ rolled (with_pool a between) seat pool → KeepsParts a after 0
+pub keeps-broke : (a after : Activity) (seat : ℕ) (between pool : Pool) → after ≡ rolled (with_other_pool a between) seat pool → KeepsParts a after 0
 keeps-broke a after seat between pool shape =
-    let keeps = keeps-left (with_pool a between) after seat pool shape in
+    let keeps = keeps-left (with_other_pool a between) after seat pool shape in
     record { programs = keeps.programs; most_lines = keeps.most_lines; next = keeps.next; directory = keeps.directory; fewer = keeps.fewer; rows = keeps.rows }
 
 -- or by a check, where nothing else had changed
@@ -114,7 +114,7 @@ pub keeps-checked : (a same after : Activity) (seat : ℕ) (pool : Pool) → sam
 keeps-checked a same after seat pool is shape = keeps-left a after seat pool (shape ∙ ap (λ (x : Activity). rolled x seat pool) is)
 
 -- locks were taken and entries granted, and other pages came in
-pub keeps-locked : (a : Activity) (seat : ℕ) (wants : List Want) (entries : List Authority) (pool : Pool) → KeepsParts a (with_pool (locked a seat wants entries) pool) 0
+pub keeps-locked : (a : Activity) (seat : ℕ) (wants : List Want) (entries : List Authority) (pool : Pool) → KeepsParts a (with_other_pool (locked a seat wants entries) pool) 0
 keeps-locked a seat wants entries pool = let same = keeps-itself a in record { programs = refl; most_lines = refl; next = refl; directory = refl; fewer = same.fewer; rows = same.rows }
 
 -- and then nothing more
@@ -141,7 +141,7 @@ pub keeps-all-then : {W : Type 0} (G : Ghosts W) (a b c : Activity) (u v : W) �
 keeps-all-then G a b c u v first second = record { asks = first.asks; parts = keeps-two a b c first.parts second }
 
 -- pages may be fetched still, after calls that only ask
-pub fetch-on : {W : Type 0} {G : Ghosts W} {layout other : Layout} {store : KeptStore} {outside later : W} → CanFetch G layout store outside → other ≡ layout → OnlyAsks G outside later → CanFetch G other store later
+pub fetch-on : {W : Type 0} {G : Ghosts W} {layout other : Layout} {store : StoreView} {outside later : W} → CanFetch G layout store outside → other ≡ layout → OnlyAsks G outside later → CanFetch G other store later
 fetch-on {G = G} {store = store} {outside = outside} {later = later} can same asks =
     record { directory = can.directory ∙ sym same; usable = can.usable; room = (asks_only G outside later asks).longer (total store.header) can.room }
 
@@ -151,9 +151,9 @@ handed P (Ok it) end is said = absurd is
 handed P (Err told) end is said = subst (λ (how : TurnEnd). P (Err how)) (sym is) said
 
 -- a stage that ended the turn ends the whole instruction so
-pub ended-so : {T V W : Type 0} {G : Ghosts W} {store : KeptStore} {seat : ℕ} {old new : Activity} {outside later : W} {before after : Tally}
-    {how : TurnEnd} {one : Result T TurnEnd → (Word → Turning) → Activity → ℕ → List ℕ → List (ℕ × ℕ) → Counts → Type 0}
-    → (other : Result V TurnEnd → (Word → Turning) → Activity → ℕ → List ℕ → List (ℕ × ℕ) → Counts → Type 0) (result : Result V TurnEnd)
+pub ended-so : {T V W : Type 0} {G : Ghosts W} {store : StoreView} {seat : ℕ} {old new : Activity} {outside later : W} {before after : Tally}
+    {how : TurnEnd} {one : Result T TurnEnd → (DiskWord → Turning) → Activity → ℕ → List ℕ → List (ℕ × ℕ) → Counts → Type 0}
+    → (other : Result V TurnEnd → (DiskWord → Turning) → Activity → ℕ → List ℕ → List (ℕ × ℕ) → Counts → Type 0) (result : Result V TurnEnd)
     → IsErrAnd result (λ told. told ≡ how) → ComesOut G store seat old new outside later before after (Err how) one
     → (Instructs G store outside seat old new before after (one (Err how)) → Instructs G store outside seat old new before after (other (Err how)))
     → ComesOut G store seat old new outside later before after result other

@@ -1,6 +1,6 @@
 -- The lemmas of this crate that several of its functions' proofs cite, passed on from one place. Declares nothing.
 pub use Rattle.activations.proofs.FetchLemmas.{came-asked, came-in, came-keeps, came-moved, came-resident, either-way, on-ok, out-keeps, out-moved, store-on, fetch-fails, first-broken, if-err, none-fetched, one-fetches, two-fetch}
-pub use Rattle.activations.proofs.Common.{activity_of, Inside, Access, Activity, AreTurns, AreWithin, Check, ComesBack, ComesToEnd, Commit, Contests, Counts, Cycle, EndsByDisk, EndsContest, GivesRows, GoesUncounted, HasBroken, HasBrokenOff, HasEnded, Header, Holding, IsAtCommit, IsClean, IsContested, IsFetched, IsInstruction, IsLegal, IsPrepared, IsSelected, IsShut, IsSome, IsSound, IsStep, IsStopped, IsTurning, KeepsDesk, KeepsParts, KeptStore, Layout, Limit, LinesOf, List, Live, Ok, Option, Pool, Prepares, Reach, RecordLine, Result, RollsBack, Seat, Seating, Serves, Some, StandsStill, StaysSeated, Strode, Tally, Touch, TurnEnd, Victim, WasAttempted, [], ap, arith, array_vec_len, asks_none, asks_on, asks_only, begun_of, byte_count, counted, cycle_of, desk_over, eq-eqb, false, flat_lines, has, held_at, holders, holds_some, inl, inr, instruction_in, is_private, length, line_bytes, line_of, lines_between, lines_with, live_in, located_by, locked, map, most_lines, nat_lt, nat_tests, ne_eqb, number_in, of_seat, option_map, page_count, pages_lowered, pages_picked, pages_wanted, plain_in, printed_after, program-reached, program_in, reach_of, record_bytes, refl, rolled, row, rules, seat-found, seat_of, sitter, slice_index_or, start_of, subst, sym, take, take_all, taken-below, tally_counts, took, total, true, turn_in, unit-sound, unwrap_or, victim_of, wants_of, with_line, with_lines, with_live, with_pool, with_whole_page, write_count, written_of, wrote, ℕ, ◌%◌, ◌*◌, ◌++◌, ◌+◌, ◌-◌, ◌<◌, ◌==◌, ◌^◌, ◌∙◌, ◌∷◌, ◌≡◌, ◌≤◌, AreLetBut, Bool, EndsRows, IsMoved, IsOpen, WillTouch, lines_wanted, authority_to_read, pages_refused, IsNoLimit, HasWritten, Authority, Grant, grant_of, not, MayBeShut, Program, program_at, AreWanted, Want, asking, size, locks_in, standing, RunsAt, HasSettled, HasUndone, vacated, IsUndone, IsRolledBack, IsCommitted, ended, IfErr, OnOk, IsIn, KeepsPool, HasFrames, IsShutOut, IsOfFewBytes, Cpu, ChangesBytes, StaysClean, LeavesSeats, at, how_went, HasNobody, idle, nobody_sits, reprinted, slice_set, FromContest, None, ComesOut, line_count}
+pub use Rattle.activations.proofs.Common.{activity_of, Inside, Access, Activity, AreTurns, AreWithin, Check, ComesBack, ComesToEnd, Commit, Contests, Counts, Cycle, EndsByDisk, EndsContest, GivesRows, GoesUncounted, HasBroken, HasBrokenOff, HasEnded, Header, Holding, IsAtCommit, IsClean, IsContested, IsFetched, IsInstruction, AreSegmentsLegal, IsPrepared, IsSeatSelected, IsLineShut, IsSome, IsActivitySound, IsStepTaken, IsAtStop, IsTurning, KeepsDesk, KeepsParts, StoreView, Layout, Limit, LinesOf, List, Live, Ok, Option, Pool, Prepares, Reach, RecordLine, Result, RollsBack, Seat, Seating, Serves, Some, StandsStill, StaysSeated, Strode, Tally, TouchedLines, TurnEnd, Victim, WasAttempted, [], ap, arith, array_vec_len, asks_none, asks_on, asks_only, begun_of, byte_count, counted, cycle_of, desk_over, eq-eqb, false, flat_lines, has, held_at, holders, holds_some, inl, inr, instruction_in, is_private, length, line_bytes, line_of, lines_between, lines_with, live_in, located_by, locked, map, most_lines, nat_lt, nat_tests, ne_eqb, number_in, of_seat, option_map, page_count, pages_lowered, pages_picked, pages_wanted, plain_in, printed_after, program-reached, program_in, reach_of, record_bytes, refl, rolled, row, rules, seat-found, seat_of, sitter, slice_index_or, start_of, subst, sym, take, take_all, taken-below, tally_counts, took, total, true, turn_in, unit-sound, unwrap_or, victim_of, wants_of, with_line, with_lines, with_live, with_other_pool, with_whole_page, write_count, written_of, wrote, ℕ, ◌%◌, ◌*◌, ◌++◌, ◌+◌, ◌-◌, ◌<◌, ◌==◌, ◌^◌, ◌∙◌, ◌∷◌, ◌≡◌, ◌≤◌, AreLetBut, Bool, EndsRows, IsPoolMoved, IsOpen, WillTouch, lines_wanted, authority_to_read, pages_refused, IsNoLimit, HasWritten, Authority, Grant, grant_of, not, MayBeShut, Program, program_at, AreWanted, Want, asking, size, locks_in, standing, RunsAt, HasSettled, HasUndone, vacated, IsUndone, IsRolledBack, CommitsWherever, seat_ended, IfErr, OnOk, IsIn, KeepsPool, HasFrames, IsShutOut, IsOfFewBytes, Cpu, ChangesBytes, StaysClean, LeavesSeats, at, how_went, HasNobody, idle, nobody_sits, reprinted, slice_set, FromContest, None, ComesOut, line_count}
 pub use Rattle.activations.proofs.EndingLemmas.{checked, sound-pool, RolledSo, commits-left, deserted, restarted-left, rolled-none, rolled-past, rolled-step, rolls-left, shape-left, sound-after, sound-idle, desk-idle, follows-idle}
 pub use Rattle.activations.proofs.ExecuteLemmas.{not-printed, runs-there, keeps-counted, took-either, took-served, took-stays, came-still, sound-counted, attempted-again, attempted-at, came-either, in-place, none-yet, room, runs-at, strode-halted, strode-one, row-goes, at-commit}
 pub use Rattle.activations.proofs.GrantLemmas.{first_within, granted-same, set-sound, one-sound, granted-owner, fine-owner, one_within, picked-refused, second_within, taken-sound, within-whole}

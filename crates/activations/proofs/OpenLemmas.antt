@@ -1,5 +1,5 @@
 -- A row that goes on, and whose access was served: it goes on still, and its lines are open.
-use Rattle.activations.proofs.Common.{◌≡◌, refl, ℕ, ◌+◌, ◌*◌, ◌%◌, ◌<◌, ◌==◌, ◌&&◌, ◌||◌, not, Bool, true, false, List, [], ◌∷◌, All, length, replicate, list_any, map, slice_index_or, slice_set, arith, ap, sym, ◌∙◌, subst, inl, inr, eqb-true, eqb-false, eq-eqb, and_parts, or_cases, or_left, or_parts, or_right, nat_tests, get_or-set_other, get_or-set_same, length-replicate, length-set, All-cons, All-head, All-nil, All-tail, cases_Bool, Layout, byte_count, has, page_of_line, has_left, has_right, Want, AreWithin, lines_wanted, held_at, of_seat, of_page-below, AreOfPage, IsFlat, IsOfPage, Authority, unowned, grant_of, lets, Plain, Program, Outcome, On, Commit, Check, row, touched, Reach, IsOpen, IsOpenLine, bytes_over, private_bytes, lines_of_access, Access, Activity, live_in, locks_in, program_in, Pool, IsMoved, with_pool, taken-below, long-seat, plain_in, IsShut, TookEffect, WasAttempted, WillTouch, CameTo, IsSound, AreGranted, AreSet, authority_given, locked, AreWanted, IsApart, AreLetBut, pages_refused, pages_wanted, refuses_want, stores_into, with_whole_page, refuses, Grant, SameWay, Plan, Does, Fails, plan_at, touched_by, IsCheckCode, over_all}
+use Rattle.activations.proofs.Common.{◌≡◌, refl, ℕ, ◌+◌, ◌*◌, ◌%◌, ◌<◌, ◌==◌, ◌&&◌, ◌||◌, not, Bool, true, false, List, [], ◌∷◌, All, length, replicate, list_any, map, slice_index_or, slice_set, arith, ap, sym, ◌∙◌, subst, inl, inr, eqb-true, eqb-false, eq-eqb, and_parts, or_cases, or_left, or_parts, or_right, nat_tests, get_or-set_other, get_or-set_same, length-replicate, length-set, All-cons, All-head, All-nil, All-tail, cases_Bool, Layout, byte_count, has, page_of_line, has_left, has_right, Want, AreWithin, lines_wanted, held_at, of_seat, of_page-below, AreOfPage, IsFlat, IsOfPage, Authority, unowned, grant_of, lets, Plain, Program, Outcome, On, Commit, Check, row, touched, Reach, IsOpen, IsOpenLine, bytes_over, private_bytes, lines_of_access, Access, Activity, live_in, locks_in, program_in, Pool, IsPoolMoved, with_other_pool, taken-below, long-seat, plain_in, IsLineShut, TookEffect, WasAttempted, WillTouch, CameTo, IsActivitySound, AreGranted, AreSet, authority_given, locked, AreWanted, IsWantApart, AreLetBut, pages_refused, pages_wanted, refuses_want, stores_into, with_whole_page, refuses, Grant, SameWay, Plan, Does, Fails, plan_at, touched_by, IsCheckCode, over_all}
 use Rattle.flat_machine.proofs.Steps.{on, row-way}
 use Rattle.desk_law.proofs.Granted.{lets-loads, lets-stores}
 use Rattle.desk_law.proofs.Permitted.{any-none}
@@ -50,7 +50,7 @@ touch-on a b seat wants directory here there program live private will = record 
         ∙ sym (ap (λ (s : Plain). on s (store committed)) (plain-by committed a.reach seat (live_in a seat) (live_in a seat) here refl))
 
 -- one that is shut touches the lines of its access
-pub shut-touches : (a : Activity) (seat : ℕ) (access : Access) (wants : List Want) → IsShut a seat access → lines_wanted wants ≡ lines_of_access (program_in a seat) a.reach.directory access → WillTouch a seat wants
+pub shut-touches : (a : Activity) (seat : ℕ) (access : Access) (wants : List Want) → IsLineShut a seat access → lines_wanted wants ≡ lines_of_access (program_in a seat) a.reach.directory access → WillTouch a seat wants
 shut-touches a seat access wants shut lines = record {
   goes = λ committed long. let out = shut.shut committed long in (out.next, out.goes);
   touches = λ committed long. (shut.shut committed long).touches ∙ sym lines;
@@ -147,7 +147,7 @@ set-there of (at ∷ pages) old new page below (one, entry, rest) =
     )
 
 -- Who took what he wanted, and is granted the pages that refused him, is refused no line of it.
-module _ (a : Activity) (seat : ℕ) (wants : List Want) (owned : List Authority) (pages : List ℕ) (sound : IsSound a) (below : seat < 16) (later : IsSound (locked a seat wants owned))
+module _ (a : Activity) (seat : ℕ) (wants : List Want) (owned : List Authority) (pages : List ℕ) (sound : IsActivitySound a) (below : seat < 16) (later : IsActivitySound (locked a seat wants owned))
     (wanted : AreWanted a.reach.directory wants) (inside : AreWithin (length (of_seat a.seating.holding seat)) (map (with_whole_page a.reach.directory) wants))
     (within : (page : ℕ) → has pages page ≡ true → page < length a.reach.entries)
     (grants : AreGranted (locked a seat wants owned) seat wants pages a.reach.entries owned) where
@@ -170,14 +170,14 @@ module _ (a : Activity) (seat : ℕ) (wants : List Want) (owned : List Authority
       ∙ has_right (locks_in a seat).writes (lines_wanted (map (with_whole_page a.reach.directory) wants)).writes (page * 16 + line)
       ((asked-alike a.reach.directory wants wanted.sets).writes (page * 16 + line) ∙ is)
 
-  let-each : (some : List Want) → All (IsApart wants) some → All (λ want. IsOfPage want.reads) some → All (λ want. IsOfPage want.writes) some
+  let-each : (some : List Want) → All (IsWantApart wants) some → All (λ want. IsOfPage want.reads) some → All (λ want. IsOfPage want.writes) some
       → ((page : ℕ) → stores_into some page ≡ true → stores_into wants page ≡ true) → AreLetBut a.reach.entries (seat + 1) pages some
       → All (λ want. refuses_want owned (seat + 1) want ≡ false) some
   let-each [] apart reads writes stores free = All-nil (λ (w : Want). refuses_want owned (seat + 1) w ≡ false)
   let-each (want ∷ some) apart reads writes stores free =
       All-cons (λ (w : Want). refuses_want owned (seat + 1) w ≡ false) want some
       (let first = All-head (λ (w : Want). has pages w.page ≡ false → refuses_want a.reach.entries (seat + 1) w ≡ false) want some free in grind (arith, granted_here, set.1, first))
-      (let-each some (All-tail (IsApart wants) want some apart) (All-tail (λ (w : Want). IsOfPage w.reads) want some reads) (All-tail (λ (w : Want). IsOfPage w.writes) want some writes)
+      (let-each some (All-tail (IsWantApart wants) want some apart) (All-tail (λ (w : Want). IsOfPage w.reads) want some reads) (All-tail (λ (w : Want). IsOfPage w.writes) want some writes)
       (λ page is. stores page (or_right ((want.page == page) && not (length want.writes == 0)) (stores_into some page) is))
       (All-tail (λ (w : Want). has pages w.page ≡ false → refuses_want a.reach.entries (seat + 1) w ≡ false) want some free))
     where
@@ -185,8 +185,8 @@ module _ (a : Activity) (seat : ℕ) (wants : List Want) (owned : List Authority
           × (has pages want.page ≡ false → slice_index_or owned want.page unowned ≡ slice_index_or a.reach.entries want.page unowned)
       set = set-there (λ page. authority_given now seat (stores_into wants page) page) pages a.reach.entries owned want.page within grants
 
-      here : IsApart wants want
-      here = All-head (IsApart wants) want some apart
+      here : IsWantApart wants want
+      here = All-head (IsWantApart wants) want some apart
 
       storing : (line : ℕ) → has want.writes line ≡ true → stores_into wants want.page ≡ true
       storing line is = stores want.page (grind (arith, nat_tests, some_written want.writes line is))
@@ -237,19 +237,19 @@ opens state wants sets free there = record {
         ]
 
 -- Who got what he wanted goes on still, and his lines are open.
-module _ (a : Activity) (seat : ℕ) (wants : List Want) (owned : List Authority) (pages : List ℕ) (pool : Pool) (sound : IsSound a) (taken : has a.seating.taken seat ≡ true) (runner : a.reach.runner ≡ seat + 1)
-    (moved : IsMoved a.reach.pool pool) where
+module _ (a : Activity) (seat : ℕ) (wants : List Want) (owned : List Authority) (pages : List ℕ) (pool : Pool) (sound : IsActivitySound a) (taken : has a.seating.taken seat ≡ true) (runner : a.reach.runner ≡ seat + 1)
+    (moved : IsPoolMoved a.reach.pool pool) where
   below : seat < 16
   below = taken-below a.seating sound.seating seat taken
 
-  pub got-touch : WillTouch a seat wants → WillTouch (with_pool (locked a seat wants owned) pool) seat wants
-  got-touch will = touch-on a (with_pool (locked a seat wants owned) pool) seat wants refl runner runner refl refl (moved.private seat below) will
+  pub got-touch : WillTouch a seat wants → WillTouch (with_other_pool (locked a seat wants owned) pool) seat wants
+  got-touch will = touch-on a (with_other_pool (locked a seat wants owned) pool) seat wants refl runner runner refl refl (moved.private seat below) will
 
-  pub got-open : IsSound (locked a seat wants owned) → AreWanted a.reach.directory wants → ((page : ℕ) → has pages page ≡ true → page < length a.reach.entries)
+  pub got-open : IsActivitySound (locked a seat wants owned) → AreWanted a.reach.directory wants → ((page : ℕ) → has pages page ≡ true → page < length a.reach.entries)
       → AreGranted (locked a seat wants owned) seat wants pages a.reach.entries owned → AreLetBut a.reach.entries (seat + 1) pages wants
-      → ((page : ℕ) → has (pages_wanted wants) page ≡ true → has pool.resident page ≡ true) → IsOpen (with_pool (locked a seat wants owned) pool).reach (lines_wanted wants)
+      → ((page : ℕ) → has (pages_wanted wants) page ≡ true → has pool.resident page ≡ true) → IsOpen (with_other_pool (locked a seat wants owned) pool).reach (lines_wanted wants)
   got-open later wanted within grants free resident =
-      opens (with_pool (locked a seat wants owned) pool).reach wants wanted.sets
+      opens (with_other_pool (locked a seat wants owned) pool).reach wants wanted.sets
       (subst (λ (tid : ℕ). All (λ want. refuses_want owned tid want ≡ false) wants) (sym runner)
       (let-each a seat wants owned pages sound below later wanted (within-whole a.reach.directory (length (of_seat a.seating.holding seat)) wants inside) within grants wants wanted.apart wanted.sets.reads wanted.sets.writes
       (λ page is. is) free))

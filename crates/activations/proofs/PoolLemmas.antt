@@ -1,5 +1,5 @@
 -- Frames, pages and lines by the size of a page, and pages that come in and go out, of which those that run see nothing.
-use Rattle.activations.proofs.Common.{PageSize, page_bytes, line_bytes, frame_count, line_place, entry_bytes, record_bytes, ◌≡◌, ℕ, ◌+◌, ◌-◌, ◌*◌, ◌/◌, ◌%◌, ◌<◌, ◌≤◌, arith, refl, ◌==◌, nat_lt, not, cond, Bool, true, List, [], ◌∷◌, length, Some, None, position_or_len, ap, eq-eqb, or_left, or_right, has, ◌||◌, if◌then◌else◌, false, ◌++◌, slice_index_or, option_to_list, remove, unwrap_or, sym, ◌∙◌, subst, page_of_line, brought, Pool, IsState, IsCurrent, IsOrderly, taken-below, Keeps, Activity, entry_in, entries, store_over, desk_over, state_in, IsSound, IsKept, KeepsDesk, IsMoved, with_pool, differs, Option, is_some, get_or_past, page_count, reach_of, AreDistinct}
+use Rattle.activations.proofs.Common.{PageSize, page_bytes, line_bytes, frame_count, line_place, entry_bytes, record_bytes, ◌≡◌, ℕ, ◌+◌, ◌-◌, ◌*◌, ◌/◌, ◌%◌, ◌<◌, ◌≤◌, arith, refl, ◌==◌, nat_lt, not, cond, Bool, true, List, [], ◌∷◌, length, Some, None, position_or_len, ap, eq-eqb, or_left, or_right, has, ◌||◌, if◌then◌else◌, false, ◌++◌, slice_index_or, option_to_list, remove, unwrap_or, sym, ◌∙◌, subst, page_of_line, brought, Pool, IsState, IsCurrent, IsOrderly, taken-below, PoolKeeps, Activity, entry_in, entries, store_over, desk_over, state_in, IsActivitySound, IsBeside, KeepsDesk, IsPoolMoved, with_other_pool, differs, Option, is_some, get_or_past, page_count, reach_of, AreDistinct}
 use Rattle.std.specs.Prelude.{IsTrue}
 use Rattle.activations.specs.Follows.{HasFrames}
 use Rattle.frame_pool.specs.Sound.{is_apart}
@@ -47,8 +47,8 @@ place-same p q (x ∷ xs) same =
     λ i. cond (not (same x (or_left (x == x) (has xs x) (eq-eqb x x refl)) i)) (1 + place-same p q xs (λ y inside. same y (or_right (x == y) (has xs y) inside)) i) 0
 
 -- what follows the desk follows it with other pages in its frames
-pub moved-kept : (a : Activity) (pool : Pool) (committed : List ℕ) → IsSound a → IsMoved a.reach.pool pool → Keeps a.reach.directory a.reach.pool pool committed
-    → IsKept a committed → IsKept (with_pool a pool) committed
+pub moved-kept : (a : Activity) (pool : Pool) (committed : List ℕ) → IsActivitySound a → IsPoolMoved a.reach.pool pool → PoolKeeps a.reach.directory a.reach.pool pool committed
+    → IsBeside a committed → IsBeside (with_other_pool a pool) committed
 moved-kept a pool committed sound moved keeps kept = record {
   long = kept.long;
   held = kept.held;
@@ -62,12 +62,12 @@ moved-kept a pool committed sound moved keeps kept = record {
   clean = keeps.clean;
 }
 
-pub moved-desk : (a : Activity) (pool : Pool) (committed : List ℕ) (order : List (ℕ × ℕ)) → IsMoved a.reach.pool pool
-    → desk_over (with_pool a pool) committed order ≡ record (desk_over a committed order) { resident = pool.resident }
+pub moved-desk : (a : Activity) (pool : Pool) (committed : List ℕ) (order : List (ℕ × ℕ)) → IsPoolMoved a.reach.pool pool
+    → desk_over (with_other_pool a pool) committed order ≡ record (desk_over a committed order) { resident = pool.resident }
 moved-desk a pool committed order moved i = record (desk_over a committed order) { frames = moved.frames i; resident = pool.resident }
 
-pub moved-follows : (a : Activity) (pool : Pool) (committed : List ℕ) → IsSound a → IsMoved a.reach.pool pool → Keeps a.reach.directory a.reach.pool pool committed
-    → KeepsDesk a committed → KeepsDesk (with_pool a pool) committed
+pub moved-follows : (a : Activity) (pool : Pool) (committed : List ℕ) → IsActivitySound a → IsPoolMoved a.reach.pool pool → PoolKeeps a.reach.directory a.reach.pool pool committed
+    → KeepsDesk a committed → KeepsDesk (with_other_pool a pool) committed
 moved-follows a pool committed sound moved keeps follows = record {
   orderly = subst IsOrderly (sym (moved-desk a pool committed [] moved))
       (record { whole = follows.orderly.whole; few = follows.orderly.few; active = follows.orderly.active; held = follows.orderly.held; no_cycle = follows.orderly.no_cycle });

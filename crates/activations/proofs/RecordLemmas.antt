@@ -1,5 +1,5 @@
 -- Lines that come into a record one after another, page by page.
-use Rattle.activations.proofs.Common.{ne_eqb, or_from, ◌≡◌, refl, ℕ, zero, suc, ◌+◌, ◌*◌, ◌/◌, ◌%◌, ◌<◌, ◌≤◌, ◌==◌, if◌then◌else◌, Bool, false, List, [], ◌∷◌, ◌++◌, All, filter, length, map, slice_index_or, Option, Some, IsSome, unwrap_or, AllPairs, list_any, range_with_len, arith, ap, sym, ◌∙◌, subst, append_assoc, length-append, append-nil, All-nil, All-cons, All-append, passing, IsOfPage, PageSize, has, distinct, size, flat_lines, Pool, line_shown, RecordLine, entry_bytes, most_lines, begun_of, record_bytes_of, with_line, KeptStore, with_begun, line_told, recorded, with_lines, cond_both, flat_map, length-map, take_more, take_all, get_or_default, page_of_line, has-append, size-alike, holds_some, Holding, IsWhole, held_at, of_seat, Activity, locks_in, IsSound, written_of, wrote, ◌&&◌, ◌||◌, take, nat_tests}
+use Rattle.activations.proofs.Common.{ne_eqb, or_from, ◌≡◌, refl, ℕ, zero, suc, ◌+◌, ◌*◌, ◌/◌, ◌%◌, ◌<◌, ◌≤◌, ◌==◌, if◌then◌else◌, Bool, false, List, [], ◌∷◌, ◌++◌, All, filter, length, map, slice_index_or, Option, Some, IsSome, unwrap_or, AllPairs, list_any, range_with_len, arith, ap, sym, ◌∙◌, subst, append_assoc, length-append, append-nil, All-nil, All-cons, All-append, passing, IsOfPage, PageSize, has, distinct, size, flat_lines, Pool, line_shown, RecordLine, entry_bytes, most_lines, begun_of, record_bytes_of, with_line, StoreView, with_begun, pool_line, recorded, with_lines, cond_both, flat_map, length-map, take_more, take_all, get_or_default, page_of_line, has-append, size-alike, holds_some, Holding, IsWholeHolding, held_at, of_seat, Activity, locks_in, IsActivitySound, written_of, wrote, ◌&&◌, ◌||◌, take, nat_tests}
 use Rattle.std.proofs.lemmas.List.Concat.{flat_map-append}
 use Rattle.seats.specs.Counted.{Ascend}
 use Rattle.activations.proofs.HoldingLemmas.{held-flat, has-flat}
@@ -104,25 +104,25 @@ module _ (size : PageSize) (bytes : ℕ → List ℕ) where
 begun-some : {A : Type 0} (begun : Option (List A)) → IsSome begun → Some (unwrap_or begun []) ≡ begun
 begun-some begun some = grind arith
 
-pub with_begun-same : (store : KeptStore) → IsSome store.bank.begun → store ≡ with_begun store (begun_of store.bank)
+pub with_begun-same : (store : StoreView) → IsSome store.bank.begun → store ≡ with_begun store (begun_of store.bank)
 with_begun-same store some i = record store { bank = record store.bank { begun = sym (begun-some store.bank.begun some) i } }
 
 -- Some lines of a page are to be added yet to the record that is begun: with them it is what it shall be.
-pub record Adds (pool : Pool) (page : ℕ) (lines : List ℕ) (first : KeptStore) (left : List ℕ) (now : KeptStore) : Type 0 where
+pub record Adds (pool : Pool) (page : ℕ) (lines : List ℕ) (first : StoreView) (left : List ℕ) (now : StoreView) : Type 0 where
   pub shape : now ≡ with_begun first (begun_of now.bank)
-  pub rest : begun_of now.bank ++ recorded first.bank.page (line_told pool) (first.bank.gate + record_bytes_of first.bank (length (begun_of now.bank))) (flat_lines page left)
-      ≡ begun_of first.bank ++ recorded first.bank.page (line_told pool) (first.bank.gate + record_bytes_of first.bank (length (begun_of first.bank))) (flat_lines page lines)
+  pub rest : begun_of now.bank ++ recorded first.bank.page (pool_line pool) (first.bank.gate + record_bytes_of first.bank (length (begun_of now.bank))) (flat_lines page left)
+      ≡ begun_of first.bank ++ recorded first.bank.page (pool_line pool) (first.bank.gate + record_bytes_of first.bank (length (begun_of first.bank))) (flat_lines page lines)
   pub least : ℕ
   pub before : All (λ one. one.line < page * 16 + least) (begun_of now.bank)
   pub climbs : Climbs least left 16
   pub room : length (begun_of now.bank) + length left ≤ most_lines first.header
 
 -- all are
-pub adds-all : (pool : Pool) (page : ℕ) (lines left : List ℕ) (first : KeptStore) → left ≡ lines → IsOfPage lines → IsSome first.bank.begun
+pub adds-all : (pool : Pool) (page : ℕ) (lines left : List ℕ) (first : StoreView) → left ≡ lines → IsOfPage lines → IsSome first.bank.begun
     → All (λ one. one.line < page * 16) (begun_of first.bank) → length (begun_of first.bank) + length lines ≤ most_lines first.header → Adds pool page lines first left first
 adds-all pool page lines left first same of some before room = record {
   shape = with_begun-same first some;
-  rest = ap (λ (these : List ℕ). begun_of first.bank ++ recorded first.bank.page (line_told pool) (first.bank.gate + record_bytes_of first.bank (length (begun_of first.bank))) (flat_lines page these)) same;
+  rest = ap (λ (these : List ℕ). begun_of first.bank ++ recorded first.bank.page (pool_line pool) (first.bank.gate + record_bytes_of first.bank (length (begun_of first.bank))) (flat_lines page these)) same;
   least = 0;
   before = let none : page * 16 ≡ page * 16 + 0 = omega arith in subst (λ (n : ℕ). All (λ (one : RecordLine). one.line < n) (begun_of first.bank)) none before;
   climbs = subst (λ (these : List ℕ). Climbs 0 these 16) (sym same) (climbs-page lines of);
@@ -130,14 +130,14 @@ adds-all pool page lines left first same of some before room = record {
 }
 
 -- none is
-pub adds-none : (pool : Pool) (page : ℕ) (lines : List ℕ) (first now : KeptStore) → Adds pool page lines first [] now → now ≡ with_lines pool (flat_lines page lines) first
+pub adds-none : (pool : Pool) (page : ℕ) (lines : List ℕ) (first now : StoreView) → Adds pool page lines first [] now → now ≡ with_lines pool (flat_lines page lines) first
 adds-none pool page lines first now adds = adds.shape ∙ ap (with_begun first) (sym (append-nil (begun_of now.bank)) ∙ adds.rest)
 
 -- one more of them is added
-pub adds-next : {pool : Pool} {page : ℕ} {lines : List ℕ} {first now : KeptStore} {some left : List ℕ} {line : ℕ} → some ≡ line ∷ left → Adds pool page lines first some now → Adds pool page lines first (line ∷ left) now
+pub adds-next : {pool : Pool} {page : ℕ} {lines : List ℕ} {first now : StoreView} {some left : List ℕ} {line : ℕ} → some ≡ line ∷ left → Adds pool page lines first some now → Adds pool page lines first (line ∷ left) now
 adds-next {pool = pool} {page = page} {lines = lines} {first = first} {now = now} is adds = subst (λ (left : List ℕ). Adds pool page lines first left now) is adds
 
-module _ {pool : Pool} {page : ℕ} {lines : List ℕ} {first now : KeptStore} {line : ℕ} {left : List ℕ} (adds : Adds pool page lines first (line ∷ left) now) where
+module _ {pool : Pool} {page : ℕ} {lines : List ℕ} {first now : StoreView} {line : ℕ} {left : List ℕ} (adds : Adds pool page lines first (line ∷ left) now) where
   pub next-line : line < 16
   next-line = let rest = climbs-bound (line + 1) left 16 adds.climbs.1 in omega (arith, rest)
 
@@ -148,20 +148,20 @@ module _ {pool : Pool} {page : ℕ} {lines : List ℕ} {first now : KeptStore} {
   next-room = omega (arith, adds.room)
 
   abbrev added : RecordLine
-  added = record { line = page * 16 + line; at = first.bank.gate + record_bytes_of first.bank (length (begun_of now.bank)); bytes = line_told pool (page * 16 + line) }
+  added = record { line = page * 16 + line; at = first.bank.gate + record_bytes_of first.bank (length (begun_of now.bank)); bytes = pool_line pool (page * 16 + line) }
 
-  told : line_shown pool page line ≡ line_told pool (page * 16 + line)
+  told : line_shown pool page line ≡ pool_line pool (page * 16 + line)
   told =
       let whole : page ≡ (page * 16 + line) / 16 = omega (arith, next-line) in
       let part : line ≡ (page * 16 + line) % 16 = omega (arith, next-line) in λ i. line_shown pool (whole i) (part i)
 
-  pub adds-one : (next : KeptStore) → next ≡ record now { bank = with_line now.bank (page * 16 + line) (line_shown pool page line) } → Adds pool page lines first left next
+  pub adds-one : (next : StoreView) → next ≡ record now { bank = with_line now.bank (page * 16 + line) (line_shown pool page line) } → Adds pool page lines first left next
   adds-one next went = record {
     shape = is ∙ ap (with_begun first) (sym begun);
     rest =
-        ap (λ (these : List RecordLine). these ++ recorded first.bank.page (line_told pool) (first.bank.gate + record_bytes_of first.bank (length these)) (flat_lines page left)) begun
-        ∙ append_assoc (begun_of now.bank) (added ∷ []) (recorded first.bank.page (line_told pool) (first.bank.gate + record_bytes_of first.bank (length (begun_of now.bank ++ added ∷ []))) (flat_lines page left))
-        ∙ ap (λ (n : ℕ). begun_of now.bank ++ added ∷ recorded first.bank.page (line_told pool) n (flat_lines page left)) place
+        ap (λ (these : List RecordLine). these ++ recorded first.bank.page (pool_line pool) (first.bank.gate + record_bytes_of first.bank (length these)) (flat_lines page left)) begun
+        ∙ append_assoc (begun_of now.bank) (added ∷ []) (recorded first.bank.page (pool_line pool) (first.bank.gate + record_bytes_of first.bank (length (begun_of now.bank ++ added ∷ []))) (flat_lines page left))
+        ∙ ap (λ (n : ℕ). begun_of now.bank ++ added ∷ recorded first.bank.page (pool_line pool) n (flat_lines page left)) place
         ∙ adds.rest;
     least = line + 1;
     before = subst (λ (these : List RecordLine). All (λ (one : RecordLine). one.line < page * 16 + (line + 1)) these) (sym begun)
@@ -173,15 +173,15 @@ module _ {pool : Pool} {page : ℕ} {lines : List ℕ} {first now : KeptStore} {
   }
     where
       gate : now.bank.gate ≡ first.bank.gate
-      gate = ap (λ (store : KeptStore). store.bank.gate) adds.shape
+      gate = ap (λ (store : StoreView). store.bank.gate) adds.shape
 
       is : next ≡ with_begun first (begun_of now.bank ++ added ∷ [])
       is = went
-          ∙ ap (λ (store : KeptStore). record store { bank = with_line store.bank (page * 16 + line) (line_shown pool page line) }) adds.shape
+          ∙ ap (λ (store : StoreView). record store { bank = with_line store.bank (page * 16 + line) (line_shown pool page line) }) adds.shape
           ∙ ap (λ (bytes : List ℕ). with_begun first (begun_of now.bank ++ record { line = page * 16 + line; at = first.bank.gate + record_bytes_of first.bank (length (begun_of now.bank)); bytes = bytes } ∷ [])) told
 
       begun : begun_of next.bank ≡ begun_of now.bank ++ added ∷ []
-      begun = ap (λ (store : KeptStore). begun_of store.bank) is
+      begun = ap (λ (store : StoreView). begun_of store.bank) is
 
       place : first.bank.gate + record_bytes_of first.bank (length (begun_of now.bank ++ added ∷ [])) ≡ first.bank.gate + record_bytes_of first.bank (length (begun_of now.bank)) + entry_bytes first.bank.page
       place = omega (arith, ap (λ (n : ℕ). entry_bytes first.bank.page * n) (length-append (begun_of now.bank) (added ∷ [])))
@@ -211,37 +211,37 @@ length-flat-take f (page ∷ pages) (suc i) =
     omega (arith, rest, length-append (f page) (flat_map f (take i pages)), length-append (f page) (flat_map f pages))
 
 -- lines and then others come behind those that are begun
-pub with_lines-more : (pool : Pool) (xs ys : List ℕ) (store now next : KeptStore) → now ≡ with_lines pool xs store → next ≡ with_lines pool ys now → next ≡ with_lines pool (xs ++ ys) store
+pub with_lines-more : (pool : Pool) (xs ys : List ℕ) (store now next : StoreView) → now ≡ with_lines pool xs store → next ≡ with_lines pool ys now → next ≡ with_lines pool (xs ++ ys) store
 with_lines-more pool xs ys store now next first second = second ∙ ap (with_lines pool ys) first ∙ ap (with_begun store)
-    (append_assoc before new (recorded store.bank.page (line_told pool) (store.bank.gate + record_bytes_of store.bank (length (before ++ new))) ys)
-    ∙ ap (λ (at : ℕ). before ++ (new ++ recorded store.bank.page (line_told pool) at ys)) place
-    ∙ ap (λ (rest : List RecordLine). before ++ rest) (sym (recorded-append store.bank.page (line_told pool) (store.bank.gate + record_bytes_of store.bank (length before)) xs ys)))
+    (append_assoc before new (recorded store.bank.page (pool_line pool) (store.bank.gate + record_bytes_of store.bank (length (before ++ new))) ys)
+    ∙ ap (λ (at : ℕ). before ++ (new ++ recorded store.bank.page (pool_line pool) at ys)) place
+    ∙ ap (λ (rest : List RecordLine). before ++ rest) (sym (recorded-append store.bank.page (pool_line pool) (store.bank.gate + record_bytes_of store.bank (length before)) xs ys)))
   where
     before : List RecordLine
     before = begun_of store.bank
 
     new : List RecordLine
-    new = recorded store.bank.page (line_told pool) (store.bank.gate + record_bytes_of store.bank (length (begun_of store.bank))) xs
+    new = recorded store.bank.page (pool_line pool) (store.bank.gate + record_bytes_of store.bank (length (begun_of store.bank))) xs
 
-    place : store.bank.gate + record_bytes_of store.bank (length (begun_of store.bank ++ recorded store.bank.page (line_told pool) (store.bank.gate + record_bytes_of store.bank (length (begun_of store.bank))) xs))
+    place : store.bank.gate + record_bytes_of store.bank (length (begun_of store.bank ++ recorded store.bank.page (pool_line pool) (store.bank.gate + record_bytes_of store.bank (length (begun_of store.bank))) xs))
         ≡ store.bank.gate + record_bytes_of store.bank (length (begun_of store.bank)) + entry_bytes store.bank.page * length xs
     place =
         omega (
           arith,
           ap (λ (n : ℕ). entry_bytes store.bank.page * n)
               (length-append before new
-              ∙ ap (λ (n : ℕ). length before + n) (length-recorded store.bank.page (line_told pool) (store.bank.gate + record_bytes_of store.bank (length (begun_of store.bank))) xs)),
+              ∙ ap (λ (n : ℕ). length before + n) (length-recorded store.bank.page (pool_line pool) (store.bank.gate + record_bytes_of store.bank (length (begun_of store.bank))) xs)),
         )
 
 -- pages of which something is held are those of the store
-pub pages-below : (holding locks : Holding) (seat : ℕ) (pages : List ℕ) → locks ≡ holding → IsWhole holding → seat < 16
+pub pages-below : (holding locks : Holding) (seat : ℕ) (pages : List ℕ) → locks ≡ holding → IsWholeHolding holding → seat < 16
     → ((page : ℕ) → has pages page ≡ holds_some (held_at locks seat page)) → (k d : ℕ) → k < length pages → slice_index_or pages k d < holding.pages
 pages-below holding locks seat pages is whole below each k d inside =
     let held = page-held holding locks seat pages k is whole below inside each in
     omega (arith, held, get_or_default pages k d 0 inside)
 
 -- The lines that a seat holds to write of pages that ascend.
-module _ (a : Activity) (seat : ℕ) (sound : IsSound a) where
+module _ (a : Activity) (seat : ℕ) (sound : IsActivitySound a) where
   written-climbs : (least : ℕ) (pages : List ℕ) (bound : ℕ) → Climbs least pages bound → Climbs (least * 16) (written_of a seat pages) (bound * 16)
   written-climbs least [] bound climbs = omega (arith, climbs)
   written-climbs least (page ∷ pages) bound climbs =
@@ -285,17 +285,17 @@ module _ (a : Activity) (seat : ℕ) (sound : IsSound a) where
           ∙ size-alike (written_of a seat pages) (locks_in a seat).writes (record { among = λ line inside. sym (written-all line) ∙ inside }) (record { among = λ line inside. written-all line ∙ inside })
 
       -- up to one of them
-      module _ (pool : Pool) (first now : KeptStore) (at : ℕ) (inside : at < length pages) (so : now ≡ with_lines pool (written_of a seat (take at pages)) first) (none : begun_of first.bank ≡ []) where
+      module _ (pool : Pool) (first now : StoreView) (at : ℕ) (inside : at < length pages) (so : now ≡ with_lines pool (written_of a seat (take at pages)) first) (none : begun_of first.bank ≡ []) where
         abbrev page : ℕ
         page = slice_index_or pages at 0
 
-        begun : begun_of now.bank ≡ recorded first.bank.page (line_told pool) (first.bank.gate + record_bytes_of first.bank (length (begun_of first.bank))) (written_of a seat (take at pages))
-        begun = ap (λ (store : KeptStore). begun_of store.bank) so ∙ ap (λ (these : List RecordLine). these ++ recorded first.bank.page (line_told pool) (first.bank.gate + record_bytes_of first.bank (length (begun_of first.bank))) (written_of a seat (take at pages))) none
+        begun : begun_of now.bank ≡ recorded first.bank.page (pool_line pool) (first.bank.gate + record_bytes_of first.bank (length (begun_of first.bank))) (written_of a seat (take at pages))
+        begun = ap (λ (store : StoreView). begun_of store.bank) so ∙ ap (λ (these : List RecordLine). these ++ recorded first.bank.page (pool_line pool) (first.bank.gate + record_bytes_of first.bank (length (begun_of first.bank))) (written_of a seat (take at pages))) none
 
         pub before-page : All (λ one. one.line < page * 16) (begun_of now.bank)
         before-page =
             subst (λ (these : List RecordLine). All (λ (one : RecordLine). one.line < page * 16) these) (sym begun)
-            (recorded-below first.bank.page (line_told pool) (page * 16) (first.bank.gate + record_bytes_of first.bank (length (begun_of first.bank))) (written_of a seat (take at pages))
+            (recorded-below first.bank.page (pool_line pool) (page * 16) (first.bank.gate + record_bytes_of first.bank (length (begun_of first.bank))) (written_of a seat (take at pages))
             (climbs-below 0 (written_of a seat (take at pages)) (page * 16) (written-climbs 0 (take at pages) page (climbs-take 0 pages bound at 0 pages-climb inside))))
 
         one-more : written_of a seat (take (at + 1) pages) ≡ written_of a seat (take at pages) ++ flat_lines page (wrote a seat page)
@@ -305,12 +305,12 @@ module _ (a : Activity) (seat : ℕ) (sound : IsSound a) where
 
         pub room-left : size (locks_in a seat).writes ≤ most_lines first.header → length (begun_of now.bank) + length (wrote a seat page) ≤ most_lines first.header
         room-left few =
-            let long = ap (λ (these : List RecordLine). length these) begun ∙ length-recorded first.bank.page (line_told pool) (first.bank.gate + record_bytes_of first.bank (length (begun_of first.bank))) (written_of a seat (take at pages)) in
+            let long = ap (λ (these : List RecordLine). length these) begun ∙ length-recorded first.bank.page (pool_line pool) (first.bank.gate + record_bytes_of first.bank (length (begun_of first.bank))) (written_of a seat (take at pages)) in
             let fewer = length-flat-take (λ (p : ℕ). flat_lines p (wrote a seat p)) pages (at + 1) in
             let more = ap (λ (these : List ℕ). length these) one-more in
             omega (arith, few, as-many, long, fewer, more, length-append (written_of a seat (take at pages)) (flat_lines page (wrote a seat page)), length-map (wrote a seat page) (λ line. page * 16 + line))
 
-        pub written-more : (next : KeptStore) → next ≡ with_lines pool (flat_lines page (wrote a seat page)) now → next ≡ with_lines pool (written_of a seat (take (at + 1) pages)) first
+        pub written-more : (next : StoreView) → next ≡ with_lines pool (flat_lines page (wrote a seat page)) now → next ≡ with_lines pool (written_of a seat (take (at + 1) pages)) first
         written-more next went =
             with_lines-more pool (written_of a seat (take at pages)) (flat_lines page (wrote a seat page)) first now next so went
             ∙ ap (λ (lines : List ℕ). with_lines pool lines first) (sym one-more)

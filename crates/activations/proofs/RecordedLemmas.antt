@@ -1,5 +1,5 @@
 -- The record of a commit, and what it leaves, laid over what is committed.
-use Rattle.activations.proofs.Common.{range-long, ◌≡◌, refl, ℕ, ◌+◌, ◌*◌, ◌/◌, ◌%◌, ◌<◌, if◌then◌else◌, Bool, true, List, length, slice_index, slice_range, Option, Some, None, option_map_or, ap, sym, ◌∙◌, Layout, page_of, page_bytes, line_bytes, PageSize, Pool, frame_at, line_shown, line_in_frame, line_kept, IsSeen, frame_count, line_place, line_size, byte_over, byte_in_frame, is_marked, in-range, over-none, over-some, page-of-line, line_told, ◌≤◌, ◌==◌, false, [], ◌∷◌, arith, or_left, or_right, eq-eqb, same_number_lists, page_count, byte_count_pages, line-bytes-pos, has, overlaid, length-overlaid, entry_bytes, laid, is_line_marked, byte-of-all, Plain, after, Commit, row, FlatStore, page_of_line, Entry, no_counts, IsLaid, over_all, due_to, place-laid, place-kept, seat-told, among-any, Activity, program_in, entry_in, entries, store_over, locks_in, shown, IsSound, KeepsDesk, recorded, nat_tests, ◌++◌, All, map, slice_index_or, AllPairs, subst, All-nil, IsOfPage, Want, size-alike, write_count, of_seat, begun_of, record_bytes_of, KeptStore, all-has, taken-below, RecordLine, IsRecordOf, LeavesCommitted, HasWritten, written_of, lines_with}
+use Rattle.activations.proofs.Common.{range-long, ◌≡◌, refl, ℕ, ◌+◌, ◌*◌, ◌/◌, ◌%◌, ◌<◌, if◌then◌else◌, Bool, true, List, length, slice_index, slice_range, Option, Some, None, option_map_or, ap, sym, ◌∙◌, Layout, page_of, page_bytes, line_bytes, PageSize, Pool, frame_at, line_shown, line_in_frame, line_kept, IsSeen, frame_count, line_place, line_size, byte_over, byte_in_frame, is_marked, in-range, over-none, over-some, page-of-line, pool_line, ◌≤◌, ◌==◌, false, [], ◌∷◌, arith, or_left, or_right, eq-eqb, same_number_lists, page_count, byte_count_pages, line-bytes-pos, has, overlaid, length-overlaid, entry_bytes, laid, is_line_marked, byte-of-all, Plain, after, Commit, row, FlatStore, page_of_line, Active, no_counts, AreLinesLaid, over_all, due_to, place-laid, place-kept, seat-told, among-any, Activity, program_in, entry_in, entries, store_over, locks_in, shown, IsActivitySound, KeepsDesk, recorded, nat_tests, ◌++◌, All, map, slice_index_or, AllPairs, subst, All-nil, IsOfPage, Want, size-alike, write_count, of_seat, begun_of, record_bytes_of, StoreView, all-has, taken-below, RecordLine, IsRecordOf, LaidIsCommitted, HasWritten, written_of, lines_with}
 use Rattle.storage_unit.proofs.FillLemmas.{over-part, in-part}
 use Rattle.storage_unit.specs.Reached as reached
 use Rattle.activations.proofs.PoolLemmas.{line-there, place-in-page, place-in-line, rest-of-place, place-of-line, line-of-place, line-ends}
@@ -38,7 +38,7 @@ module _ (size : PageSize) (d : Layout) (pool : Pool) (committed : List ℕ) (pl
       in-range bytes (line_place size whole line) (line_bytes size) (place % line_bytes size) (rest-of-place size place)
       ∙ ap (slice_index bytes) (place-in-line size whole place)
 
-  pub told-byte : slice_index (line_told pool (place / line_bytes size)) (place % line_bytes size) ≡ byte_over d pool committed place
+  pub told-byte : slice_index (pool_line pool (place / line_bytes size)) (place % line_bytes size) ≡ byte_over d pool committed place
   told-byte = by_frame (frame_at pool page) refl
     where
       by_frame : (where_it_is : Option ℕ) → frame_at pool page ≡ where_it_is
@@ -108,7 +108,7 @@ laid-over size of bytes at (line ∷ lines) base are =
     (laid-over size of bytes (at + entry_bytes of) lines (over size bytes line lines base [] are) (are-left size bytes line lines base [] are))
 
 -- With the bytes of all where they were written, and committed ones elsewhere, it leaves what is committed by then.
-module _ (a : Activity) (seat : ℕ) (committed : List ℕ) (now : Plain) (sound : IsSound a) (reached : reached.IsSound a.reach) (taken : has a.seating.taken seat ≡ true) (follows : KeepsDesk a committed)
+module _ (a : Activity) (seat : ℕ) (committed : List ℕ) (now : Plain) (sound : IsActivitySound a) (reached : reached.IsReachSound a.reach) (taken : has a.seating.taken seat ≡ true) (follows : KeepsDesk a committed)
     (at : after (entry_in a seat).runs.program (entry_in a seat).runs.args (store_over a committed) (entry_in a seat).rows ≡ Some now)
     (call : row (program_in a seat) a.reach.directory (over_all now (shown a committed)) ≡ Commit) where
   abbrev store : FlatStore
@@ -117,7 +117,7 @@ module _ (a : Activity) (seat : ℕ) (committed : List ℕ) (now : Plain) (sound
   lines-due : (line : ℕ) → has (locks_in a seat).writes line ≡ has (due_to store (entry_in a seat)).writes line
   lines-due line = (follows.kept.held seat taken).writes line
 
-  done : IsLaid store (due_to store (entry_in a seat)).writes (shown a committed) committed now.store
+  done : AreLinesLaid store (due_to store (entry_in a seat)).writes (shown a committed) committed now.store
   done = (ends a seat a.reach.pool [] committed now sound taken follows at call [] no_counts).record_lines
 
   abbrev size : PageSize
@@ -125,10 +125,10 @@ module _ (a : Activity) (seat : ℕ) (committed : List ℕ) (now : Plain) (sound
 
   marked : (line : ℕ) → has (locks_in a seat).writes line ≡ true → is_line_marked a.reach.pool line ≡ true
   marked line inside = follows.kept.marked.is line
-      ∙ among-any (λ (entry : Entry). has (due_to store entry).writes line) (entries a) (entry_in a seat) (seat-told a.seating.taken (entry_in a) seat taken) (sym (lines-due line) ∙ inside)
+      ∙ among-any (λ (entry : Active). has (due_to store entry).writes line) (entries a) (entry_in a seat) (seat-told a.seating.taken (entry_in a) seat taken) (sym (lines-due line) ∙ inside)
 
   module _ (lines : List ℕ) (same : (line : ℕ) → has lines line ≡ has (locks_in a seat).writes line) (below : (line : ℕ) → has lines line ≡ true → line < page_count a.reach.directory * 16) where
-    are-lines : AreLines size (line_told a.reach.pool) lines (length committed)
+    are-lines : AreLines size (pool_line a.reach.pool) lines (length committed)
     are-lines = record {
       long = λ line inside.
           let less = below line inside in let all = reached.fits.pages in
@@ -136,7 +136,7 @@ module _ (a : Activity) (seat : ℕ) (committed : List ℕ) (now : Plain) (sound
       within = λ line inside. line-ends size line (page_count a.reach.directory) (length committed) (below line inside) (follows.kept.long ∙ byte_count_pages a.reach.directory);
     }
 
-    each : (of : PageSize) (at : ℕ) (place : ℕ) → place < length committed → slice_index (laid size committed (recorded of (line_told a.reach.pool) at lines)) place ≡ slice_index now.store place
+    each : (of : PageSize) (at : ℕ) (place : ℕ) → place < length committed → slice_index (laid size committed (recorded of (pool_line a.reach.pool) at lines)) place ≡ slice_index now.store place
     each of at place inside =
         let told = λ (is : has lines (place / line_bytes size) ≡ true). told-byte size a.reach.directory a.reach.pool committed place reached.fits.size refl
         (marked (place / line_bytes size) (sym (same (place / line_bytes size)) ∙ is))
@@ -144,15 +144,15 @@ module _ (a : Activity) (seat : ℕ) (committed : List ℕ) (now : Plain) (sound
         ∙ sym (place-laid store (due_to store (entry_in a seat)).writes (shown a committed) committed now.store (line-bytes-pos a.reach.directory) done place (sym (lines-due (place / line_bytes size)) ∙ sym (same (place / line_bytes size)) ∙ is)) in
         let kept = λ (is : has lines (place / line_bytes size) ≡ false).
         place-kept store (due_to store (entry_in a seat)).writes (shown a committed) committed now.store (line-bytes-pos a.reach.directory) done place (sym (lines-due (place / line_bytes size)) ∙ sym (same (place / line_bytes size)) ∙ is) in
-        (laid-over size of (line_told a.reach.pool) at lines committed are-lines).each place inside ∙ grind (arith, told, kept)
+        (laid-over size of (pool_line a.reach.pool) at lines committed are-lines).each place inside ∙ grind (arith, told, kept)
 
-    pub leaves-committed : (of : PageSize) (at : ℕ) → laid size committed (recorded of (line_told a.reach.pool) at lines) ≡ now.store
+    pub leaves-committed : (of : PageSize) (at : ℕ) → laid size committed (recorded of (pool_line a.reach.pool) at lines) ≡ now.store
     leaves-committed of at =
-        let over = laid-over size of (line_told a.reach.pool) at lines committed are-lines in
-        same_number_lists (laid size committed (recorded of (line_told a.reach.pool) at lines)) now.store (over.long ∙ sym done.long)
+        let over = laid-over size of (pool_line a.reach.pool) at lines committed are-lines in
+        same_number_lists (laid size committed (recorded of (pool_line a.reach.pool) at lines)) now.store (over.long ∙ sym done.long)
         (λ place inside. each of at place (omega (arith, inside, over.long)))
 
-module _ (a : Activity) (seat : ℕ) (sound : IsSound a) (taken : has a.seating.taken seat ≡ true) where
+module _ (a : Activity) (seat : ℕ) (sound : IsActivitySound a) (taken : has a.seating.taken seat ≡ true) where
   -- how many lines it would have, with no more than are held
   pub with-none : lines_with a seat [] ≡ write_count (of_seat a.seating.holding seat)
   with-none = written-none (of_seat a.seating.holding seat) (sound.lines seat) (record { reads = All-nil (λ (want : Want). IsOfPage want.reads); writes = All-nil (λ (want : Want). IsOfPage want.writes) })
@@ -166,15 +166,15 @@ module _ (a : Activity) (seat : ℕ) (sound : IsSound a) (taken : has a.seating.
       (record { among = λ line inside. sym (alike.writes line) ∙ inside }) (record { among = λ line inside. alike.writes line ∙ inside }) in
       omega (arith, live.few, same, size-held (of_seat a.seating.holding seat) (sound.lines seat))
 
-  module _ (store now : KeptStore) (none : begun_of store.bank ≡ []) (written : HasWritten a seat store now) where
+  module _ (store now : StoreView) (none : begun_of store.bank ≡ []) (written : HasWritten a seat store now) where
     abbrev lines : List ℕ
     lines = written_of a seat written.pages
 
     abbrev at : ℕ
     at = store.bank.gate + record_bytes_of store.bank (length (begun_of store.bank))
 
-    begun : begun_of now.bank ≡ recorded store.bank.page (line_told a.reach.pool) at lines
-    begun = ap (λ (store : KeptStore). begun_of store.bank) written.is ∙ ap (λ (these : List RecordLine). these ++ recorded store.bank.page (line_told a.reach.pool) at lines) none
+    begun : begun_of now.bank ≡ recorded store.bank.page (pool_line a.reach.pool) at lines
+    begun = ap (λ (store : StoreView). begun_of store.bank) written.is ∙ ap (λ (these : List RecordLine). these ++ recorded store.bank.page (pool_line a.reach.pool) at lines) none
 
     below : (k d : ℕ) → k < length written.pages → slice_index_or written.pages k d < a.seating.holding.pages
     below = pages-below a.seating.holding a.seating.holding seat written.pages refl sound.seating.whole (taken-below a.seating sound.seating seat taken) written.all
@@ -182,21 +182,21 @@ module _ (a : Activity) (seat : ℕ) (sound : IsSound a) (taken : has a.seating.
     pub is-record : IsRecordOf a seat (begun_of now.bank)
     is-record = record {
       ascending = subst (λ (these : List RecordLine). AllPairs (λ (first second : RecordLine). first.line < second.line) these) (sym begun)
-          (recorded-ascend store.bank.page (line_told a.reach.pool) at lines 0 (a.seating.holding.pages * 16) (lines-climb a seat sound written.pages written.ascending written.all a.seating.holding.pages below));
+          (recorded-ascend store.bank.page (pool_line a.reach.pool) at lines 0 (a.seating.holding.pages * 16) (lines-climb a seat sound written.pages written.ascending written.all a.seating.holding.pages below));
       each = λ line.
           ap (λ (these : List RecordLine). has (map (λ one. one.line) these) line) begun
-          ∙ ap (λ (these : List ℕ). has these line) (numbers-recorded store.bank.page (line_told a.reach.pool) at lines)
+          ∙ ap (λ (these : List ℕ). has these line) (numbers-recorded store.bank.page (pool_line a.reach.pool) at lines)
           ∙ (written-all a seat sound written.pages written.ascending written.all) line;
-      bytes = subst (λ (these : List RecordLine). All (λ (one : RecordLine). one.bytes ≡ line_told a.reach.pool one.line) these) (sym begun) (bytes-recorded store.bank.page (line_told a.reach.pool) at lines);
+      bytes = subst (λ (these : List RecordLine). All (λ (one : RecordLine). one.bytes ≡ pool_line a.reach.pool one.line) these) (sym begun) (bytes-recorded store.bank.page (pool_line a.reach.pool) at lines);
     }
 
     pub record-count : length (begun_of now.bank) ≡ write_count (of_seat a.seating.holding seat)
     record-count = ap (λ (these : List RecordLine). length these) begun
-        ∙ length-recorded store.bank.page (line_told a.reach.pool) at lines
+        ∙ length-recorded store.bank.page (pool_line a.reach.pool) at lines
         ∙ as-many a seat sound written.pages written.ascending written.all a.seating.holding.pages below
         ∙ size-held (of_seat a.seating.holding seat) (sound.lines seat)
 
-    pub record-leaves : reached.IsSound a.reach → LeavesCommitted a seat (begun_of now.bank)
+    pub record-leaves : reached.IsReachSound a.reach → LaidIsCommitted a seat (begun_of now.bank)
     record-leaves whole committed state follows there call = ap (laid a.reach.directory.page committed) begun
         ∙ leaves-committed a seat committed state sound whole taken follows there call lines (written-all a seat sound written.pages written.ascending written.all)
         (λ line inside.

@@ -1,5 +1,5 @@
 -- A rollback: pages go out one after another, their lines forgotten.
-use Rattle.activations.proofs.Common.{◌≡◌, refl, ℕ, ◌%◌, ◌<◌, ◌==◌, ◌&&◌, ◌||◌, not, if◌then◌else◌, Bool, true, false, List, [], ◌∷◌, ◌++◌, filter, length, slice_index, slice_index_or, Option, Some, None, is_some, option_map_or, arith, ap, sym, ◌∙◌, get_or-set_same, get_or-set_other, Layout, byte_count, page_count, line_of, difference, is_in_where-below, has, page_of_line, taken_out, has-append, Pool, marks_at, frame_at, undone, settled, gone, is_line_marked, bytes_over, Fits, UndoForgets, is_of, WereUndone, AreAsCommitted, nat_tests, ◌+◌, ◌*◌, ◌/◌, subst, eqb-true, eq-eqb, length-map-range_with_len, FlatStore, line-bytes-pos, of_page-below, Lines, any-at, any-some, has-pages_of, of_seat, no_lines_of, Entry, rolled_back, written_pages, AreAlike, AreMarked, IsState, IsLaid, IsCurrent, IsAmong, AreConsistent, due_to, current-rolled, both-imply, laid-places, marked-end, seat-told, other-with, IsClean, byte_over, byte-of-all, clean-shows, Activity, entry_in, entries, store_over, desk_over, lines_held, locks_in, state_for, live_in, shown, IsSound, IsKept, wrote, AreWritten, rolled, RollsBack, gone-stays}
+use Rattle.activations.proofs.Common.{◌≡◌, refl, ℕ, ◌%◌, ◌<◌, ◌==◌, ◌&&◌, ◌||◌, not, if◌then◌else◌, Bool, true, false, List, [], ◌∷◌, ◌++◌, filter, length, slice_index, slice_index_or, Option, Some, None, is_some, option_map_or, arith, ap, sym, ◌∙◌, get_or-set_same, get_or-set_other, Layout, byte_count, page_count, line_of, difference, is_in_where-below, has, page_of_line, taken_out, has-append, Pool, marks_at, frame_at, page_undone, settled, gone, is_line_marked, bytes_over, PoolFits, UndoForgets, is_of, WereUndone, AreAsCommitted, nat_tests, ◌+◌, ◌*◌, ◌/◌, subst, eqb-true, eq-eqb, length-map-range_with_len, FlatStore, line-bytes-pos, of_page-below, Lines, any-at, any-some, has-pages_of, of_seat, no_lines_of, Active, rolled_back, written_pages, AreAlike, AreWrittenMarked, IsState, AreLinesLaid, IsCurrent, IsAmong, AreConsistent, due_to, current-rolled, both-imply, laid-places, marked-end, seat-told, other-with, IsClean, byte_over, byte-of-all, clean-shows, Activity, entry_in, entries, store_over, desk_over, lines_held, locks_in, state_for, live_in, shown, IsActivitySound, IsBeside, wrote, AreWritten, rolled, RollsBack, gone-stays}
 use Rattle.activations.proofs.HoldingLemmas.{held-flat}
 use Rattle.activations.proofs.TableLemmas.{stands-for, left-taken, entries-left, authority-left}
 
@@ -44,7 +44,7 @@ gone-resident pool page is =
     (λ none. let out = is ∙ ap is_some none in
     sym (filter-all pool.resident) ∙ filter-alike (λ one. true) (λ one. not (has (page ∷ []) one)) pool.resident (λ one inside. grind (arith, nat_tests, out, inside)))
 
-module _ (directory : Layout) (pool : Pool) (fits : Fits directory pool) (page : ℕ) (below : page < page_count directory) (lines : List ℕ) where
+module _ (directory : Layout) (pool : Pool) (fits : PoolFits directory pool) (page : ℕ) (below : page < page_count directory) (lines : List ℕ) where
   marked-below : page < length pool.marked
   marked-below = omega (arith, below, fits.pages, fits.seen.marked)
 
@@ -57,8 +57,8 @@ module _ (directory : Layout) (pool : Pool) (fits : Fits directory pool) (page :
       grind (arith, nat_tests, gone, there, other)
 
 -- One page more: its lines are forgotten too.
-module _ (directory : Layout) (lines : ℕ → List ℕ) (pages : List ℕ) (old pool : Pool) (fits : Fits directory pool) (page : ℕ) (below : page < page_count directory) where
-  pub were-undone : WereUndone lines pages old pool → WereUndone lines (pages ++ page ∷ []) old (undone pool page (lines page))
+module _ (directory : Layout) (lines : ℕ → List ℕ) (pages : List ℕ) (old pool : Pool) (fits : PoolFits directory pool) (page : ℕ) (below : page < page_count directory) where
+  pub were-undone : WereUndone lines pages old pool → WereUndone lines (pages ++ page ∷ []) old (page_undone pool page (lines page))
   were-undone were = record {
     marks = λ line.
         let stays = ap (λ (marked : List (List ℕ)). has (slice_index_or marked (page_of_line line) []) (line % 16)) (gone-stays (settled pool page (lines page)) page).marked in
@@ -72,7 +72,7 @@ module _ (directory : Layout) (lines : ℕ → List ℕ) (pages : List ℕ) (old
   }
 
   pub are-as-committed : UndoForgets → (committed : List ℕ) → length committed ≡ byte_count directory
-      → AreAsCommitted directory lines pages old pool committed → AreAsCommitted directory lines (pages ++ page ∷ []) old (undone pool page (lines page)) committed
+      → AreAsCommitted directory lines pages old pool committed → AreAsCommitted directory lines (pages ++ page ∷ []) old (page_undone pool page (lines page)) committed
   are-as-committed forgets committed long are =
       let undo = forgets directory pool committed page (lines page) fits long are.clean below in
       record {
@@ -81,14 +81,14 @@ module _ (directory : Layout) (lines : ℕ → List ℕ) (pages : List ℕ) (old
       }
 
 -- a line that a seat holds to write is one of the lines that it holds
-pub wrote-held : (a : Activity) (seat : ℕ) (lines : Lines) → IsSound a → AreAlike (locks_in a seat) lines → (line : ℕ) → has (wrote a seat (page_of_line line)) (line % 16) ≡ has lines.writes line
+pub wrote-held : (a : Activity) (seat : ℕ) (lines : Lines) → IsActivitySound a → AreAlike (locks_in a seat) lines → (line : ℕ) → has (wrote a seat (page_of_line line)) (line % 16) ≡ has lines.writes line
 wrote-held a seat lines sound alike line =
     let whole : line / 16 * 16 + line % 16 ≡ line = omega arith in
     (held-flat (of_seat a.seating.holding seat) (sound.lines seat)).writes (line / 16) (line % 16) (omega arith)
     ∙ ap (has (locks_in a seat).writes) whole ∙ alike.writes line
 
 -- the lines of the pages into which he wrote are those that he holds to write
-pub of-held : (a : Activity) (seat : ℕ) (pages : List ℕ) (lines : Lines) → IsSound a → AreAlike (locks_in a seat) lines
+pub of-held : (a : Activity) (seat : ℕ) (pages : List ℕ) (lines : Lines) → IsActivitySound a → AreAlike (locks_in a seat) lines
     → AreWritten a.seating.holding seat pages → (line : ℕ) → is_of pages (wrote a seat) line ≡ has lines.writes line
 of-held a seat pages lines sound alike written line =
     let all = written.all (page_of_line line) (line % 16) in let held = wrote-held a seat lines sound alike line in
@@ -134,12 +134,12 @@ module _ (directory : Layout) (more fewer : List ℕ) (old new : Pool) (committe
   }
 
 -- the others hold what they held
-pub locks-left : (a : Activity) (seat : ℕ) (pool : Pool) → IsSound a → (at : ℕ) → (at == seat) ≡ false → locks_in (rolled a seat pool) at ≡ locks_in a at
+pub locks-left : (a : Activity) (seat : ℕ) (pool : Pool) → IsActivitySound a → (at : ℕ) → (at == seat) ≡ false → locks_in (rolled a seat pool) at ≡ locks_in a at
 locks-left a seat pool sound at differs = ap lines_held (other-with a.seating.holding seat (no_lines_of a.seating.holding.pages) sound.seating.whole at differs)
 
 -- Who sits in a seat is gone, and the lines that he wrote were forgotten: what is left is kept beside the others.
-module _ (a : Activity) (seat : ℕ) (pool : Pool) (committed : List ℕ) (sound : IsSound a) (taken : has a.seating.taken seat ≡ true)
-    (consistent : AreConsistent (store_over a committed) a.most_lines a.next (entries a)) (kept : IsKept a committed)
+module _ (a : Activity) (seat : ℕ) (pool : Pool) (committed : List ℕ) (sound : IsActivitySound a) (taken : has a.seating.taken seat ≡ true)
+    (consistent : AreConsistent (store_over a committed) a.most_lines a.next (entries a)) (kept : IsBeside a committed)
     (were : WereForgotten a.reach.directory (due_to (store_over a committed) (entry_in a seat)).writes a.reach.pool pool committed) where
   abbrev store : FlatStore
   store = store_over a committed
@@ -147,14 +147,14 @@ module _ (a : Activity) (seat : ℕ) (pool : Pool) (committed : List ℕ) (sound
   here : IsAmong (entries a) (entry_in a seat)
   here = seat-told a.seating.taken (entry_in a) seat taken
 
-  pub laid-left : IsLaid store (due_to store (entry_in a seat)).writes committed (shown a committed) (shown (rolled a seat pool) committed)
+  pub laid-left : AreLinesLaid store (due_to store (entry_in a seat)).writes committed (shown a committed) (shown (rolled a seat pool) committed)
   laid-left =
       let shown-long : length (shown a committed) ≡ byte_count a.reach.directory = length-map-range_with_len (byte_over a.reach.directory a.reach.pool committed) 0 (byte_count a.reach.directory) in
       laid-places store (due_to store (entry_in a seat)).writes committed (shown a committed) (shown (rolled a seat pool) committed) (line-bytes-pos a.reach.directory)
       (length-map-range_with_len (byte_over a.reach.directory pool committed) 0 (byte_count a.reach.directory) ∙ sym shown-long)
       (kept.long ∙ sym shown-long) (λ place within. were.places place (subst (λ (n : ℕ). place < n) shown-long within))
 
-  pub kept-left : IsKept (rolled a seat pool) committed
+  pub kept-left : IsBeside (rolled a seat pool) committed
   kept-left = record {
     long = kept.long;
     held = λ at inside. let (there, differs) = left-taken a seat sound taken at inside in subst (λ (l : Lines). AreAlike l (due_to store (entry_in a at))) (sym (locks-left a seat pool sound at differs)) (kept.held at there);
@@ -163,18 +163,18 @@ module _ (a : Activity) (seat : ℕ) (pool : Pool) (committed : List ℕ) (sound
         subst (IsState store (entry_in a at)) (ap (λ (bytes : List ℕ). state_for (record a.reach.pool { bytes = bytes }) at (live_in a at)) (sym were.bytes))
         (kept.stand at (left-taken a seat sound taken at inside).0);
     is_current =
-        subst (λ (these : List Entry). IsCurrent store these (shown (rolled a seat pool) committed)) (sym (entries-left a seat sound taken))
+        subst (λ (these : List Active). IsCurrent store these (shown (rolled a seat pool) committed)) (sym (entries-left a seat sound taken))
         (current-rolled store a.most_lines a.next (entries a) consistent (shown a committed) (entry_in a seat) (shown (rolled a seat pool) committed) here kept.is_current laid-left);
     marked =
-        subst (λ (these : List Entry). AreMarked store these (is_line_marked pool)) (sym (entries-left a seat sound taken))
+        subst (λ (these : List Active). AreWrittenMarked store these (is_line_marked pool)) (sym (entries-left a seat sound taken))
         (marked-end store a.most_lines a.next (entries a) consistent (is_line_marked a.reach.pool) kept.marked (entry_in a seat) (is_line_marked pool) here were.marks);
     clean = were.clean;
   }
 
 -- Who sits in a seat is rolled back: the pages into which he wrote have gone out, with the lines that he wrote.
 module _ (a : Activity) (seat : ℕ) (pool : Pool) (pages : List ℕ) (committed : List ℕ)
-    (sound : IsSound a) (taken : has a.seating.taken seat ≡ true)
-    (consistent : AreConsistent (store_over a committed) a.most_lines a.next (entries a)) (kept : IsKept a committed)
+    (sound : IsActivitySound a) (taken : has a.seating.taken seat ≡ true)
+    (consistent : AreConsistent (store_over a committed) a.most_lines a.next (entries a)) (kept : IsBeside a committed)
     (written : AreWritten a.seating.holding seat pages) (were : WereUndone (wrote a seat) pages a.reach.pool pool)
     (are : AreAsCommitted a.reach.directory (wrote a seat) pages a.reach.pool pool committed) where
   abbrev due : List ℕ

@@ -1,16 +1,16 @@
 -- A row that was served takes effect: its pages are there, its lines are locked and granted, and its second attempt went.
-use Rattle.activations.proofs.Common.{◌≡◌, refl, ℕ, ◌+◌, ◌%◌, ◌<◌, ◌==◌, ◌||◌, if◌then◌else◌, Bool, true, false, List, [], map, slice_index_or, Some, arith, ap, sym, ◌∙◌, subst, eq-eqb, both_ways, is_fine_page, FlatStore, has, Lines, no_lines, page_of_line, both, with_whole_pages, wanted, Want, with_wants, of_seat, Authority, Plain, On, row, after, touched, Pool, Desk, Entry, Word, Counts, Attempt, Turning, Going, Fetched, Fine, fetches, touched_pages, with_grants, lowered, locks_with, AreAlike, AreMarked, IsState, over_all, requested, owners_told, gone_on, row_done, IsAmong, due_to, IsCurrent, IsOrderly, wanted-is, replaced, one-entry, due-more, marked-row, seat-told, told-replaced, at-number, got, WentOn, gets-goes, sitter, taken-below, other-with, is_line_marked, Keeps, plain_over, Live, Activity, live_in, program_in, entry_in, entries, store_over, desk_over, authority_under, number_under, lines_held, locks_in, request_for, request_in, state_in, shown, IsSound, IsFree, Goes, locked, with_entries, counted, executed, with_pool, IsMoved, HasExecuted, with_whole_page}
+use Rattle.activations.proofs.Common.{◌≡◌, refl, ℕ, ◌+◌, ◌%◌, ◌<◌, ◌==◌, ◌||◌, if◌then◌else◌, Bool, true, false, List, [], map, slice_index_or, Some, arith, ap, sym, ◌∙◌, subst, eq-eqb, both_ways, is_fine_page, FlatStore, has, Lines, no_lines, page_of_line, both, with_whole_pages, wanted, Want, with_wants, of_seat, Authority, Plain, On, row, after, touched, Pool, Desk, Active, DiskWord, Counts, InFlight, Turning, Going, Fetched, Fine, fetches, touched_pages, with_grants, lowered, locks_with, AreAlike, AreWrittenMarked, IsState, over_all, requested, owners_told, gone_on, row_done, IsAmong, due_to, IsCurrent, IsOrderly, wanted-is, replaced, one-entry, due-more, marked-row, seat-told, told-replaced, at-number, got, WentOn, gets-goes, sitter, taken-below, other-with, is_line_marked, PoolKeeps, plain_over, Live, Activity, live_in, program_in, entry_in, entries, store_over, desk_over, authority_under, number_under, lines_held, locks_in, request_for, request_in, state_in, shown, IsActivitySound, IsFree, Goes, locked, with_entries, counted, executed, with_other_pool, IsPoolMoved, HasExecuted, with_whole_page}
 use Rattle.flat_machine.specs.Due.{touched_within}
 use Rattle.activations.proofs.CommitLemmas.{told-kept}
 use Rattle.activations.proofs.ContestLemmas.{locks_told, orderly-other, requests_told, states_told}
 use Rattle.activations.proofs.SittingLemmas.{by_seat, sitter-other, entry-counted, entry-other, under-counted, live-other, live-there, state-by, plain-by, state-shows}
 
-module _ (begins : Word → Turning) (attempt : Attempt) (refused : List ℕ) (a : Activity) (seat : ℕ) (committed : List ℕ) (order : List (ℕ × ℕ)) (counts : Counts)
+module _ (begins : DiskWord → Turning) (attempt : InFlight) (refused : List ℕ) (a : Activity) (seat : ℕ) (committed : List ℕ) (order : List (ℕ × ℕ)) (counts : Counts)
     (wants : List Want) (owned eased : List Authority) (pool : Pool) (live : Live) (bytes : List ℕ) (marked : List (List ℕ)) (counted_pages : ℕ) (next : Plain)
-    (sound : IsSound a) (taken : has a.seating.taken seat ≡ true) (runner : a.reach.runner ≡ seat + 1)
+    (sound : IsActivitySound a) (taken : has a.seating.taken seat ≡ true) (runner : a.reach.runner ≡ seat + 1)
     (number : attempt.entry.number ≡ (sitter a.seating seat).number) (free : IsFree begins attempt refused a committed order counts) (goes : attempt.outcome ≡ On next) where
   abbrev before : Activity
-  before = with_pool (locked a seat wants owned) pool
+  before = with_other_pool (locked a seat wants owned) pool
 
   -- once it took effect and the write bits went off
   abbrev ran : Activity
@@ -22,7 +22,7 @@ module _ (begins : Word → Turning) (attempt : Attempt) (refused : List ℕ) (a
   abbrev store : FlatStore
   store = store_over a committed
 
-  abbrev entry : Entry
+  abbrev entry : Active
   entry = entry_in a seat
 
   abbrev old : Desk
@@ -45,9 +45,9 @@ module _ (begins : Word → Turning) (attempt : Attempt) (refused : List ℕ) (a
   state = free.follows.kept.stand seat taken
 
   now-is : attempt.now ≡ over_all (state_in a seat) state.bytes
-  now-is = (let told : Some attempt.now ≡ Some (over_all (state_in a seat) state.bytes) = (sym free.ready.now ∙ sym (ap (λ (e : Entry). after e.runs.program e.runs.args store e.rows) same) ∙ state.at) in cc)
+  now-is = (let told : Some attempt.now ≡ Some (over_all (state_in a seat) state.bytes) = (sym free.ready.now ∙ sym (ap (λ (e : Active). after e.runs.program e.runs.args store e.rows) same) ∙ state.at) in cc)
 
-  module _ (moved : IsMoved a.reach.pool pool) (keeps : Keeps a.reach.directory a.reach.pool pool committed)
+  module _ (moved : IsPoolMoved a.reach.pool pool) (keeps : PoolKeeps a.reach.directory a.reach.pool pool committed)
       (fetched : fetches Fine old.frames (touched_pages attempt) (touched_pages attempt) old.resident counts.pages ≡ Fetched pool.resident counted_pages)
       (alike : AreAlike (locks_in (locked a seat wants owned) seat) (locks_with attempt old))
       (grants : owners_told (number_under a) (authority_under eased) ≡ lowered (is_fine_page a.reach.directory) attempt (locks_with attempt old) (with_grants attempt refused old).authority)
@@ -79,7 +79,7 @@ module _ (begins : Word → Turning) (attempt : Attempt) (refused : List ℕ) (a
     went-on =
         gets-goes begins attempt refused pool.resident old counts counted_pages (locks_told a) more (requests_told a) (states_told a) new next left (shown a committed)
         free.comes free.ready free.free goes (told-kept a committed sound free.follows.kept) fetched
-        (ap (row attempt.entry.runs.program a.reach.directory) shows ∙ ap (λ (e : Entry). row e.runs.program a.reach.directory (plain_over committed (live_in before seat).cpu before.reach (live_in before seat).out)) (sym same) ∙ went.goes.goes)
+        (ap (row attempt.entry.runs.program a.reach.directory) shows ∙ ap (λ (e : Active). row e.runs.program a.reach.directory (plain_over committed (live_in before seat).cpu before.reach (live_in before seat).out)) (sym same) ∙ went.goes.goes)
         more-mine
         (record { kept = λ at differs. ap (λ (b : Bool). if b then locks_in (locked a seat wants owned) seat else locks_told a at) differs })
         (ap (λ (b : Bool). if b then left else states_told a attempt.entry.number) mine)
@@ -94,8 +94,8 @@ module _ (begins : Word → Turning) (attempt : Attempt) (refused : List ℕ) (a
 
     entries-done : entries done ≡ replaced (gone_on attempt.entry) (entries a)
     entries-done = told-replaced a.seating.taken (entry_in a) (entry_in done) seat
-        (λ at inside. ap (λ (e : Entry). (entry_in a at).number == e.number) (entry-counted (with_entries (executed before seat live bytes marked) eased) seat 1 sound.seating.sixteen below) ∙ sound.seats.apart at seat inside taken) entry-others
-        ∙ ap (λ (e : Entry). replaced e (entries a)) entry-done
+        (λ at inside. ap (λ (e : Active). (entry_in a at).number == e.number) (entry-counted (with_entries (executed before seat live bytes marked) eased) seat 1 sound.seating.sixteen below) ∙ sound.seats.apart at seat inside taken) entry-others
+        ∙ ap (λ (e : Active). replaced e (entries a)) entry-done
 
     desk-done : desk_over done committed order ≡ row_done attempt (got attempt refused pool.resident old)
     desk-done i = record old {
@@ -106,28 +106,28 @@ module _ (begins : Word → Turning) (attempt : Attempt) (refused : List ℕ) (a
     }
 
     among-done : (at : ℕ) → has a.seating.taken at ≡ true → IsAmong (replaced (gone_on attempt.entry) (entries a)) (entry_in done at)
-    among-done at inside = subst (λ (these : List Entry). IsAmong these (entry_in done at)) entries-done (seat-told a.seating.taken (entry_in done) at inside)
+    among-done at inside = subst (λ (these : List Active). IsAmong these (entry_in done at)) entries-done (seat-told a.seating.taken (entry_in done) at inside)
 
     other-number : (at : ℕ) → has a.seating.taken at ≡ true → (at == seat) ≡ false → ((entry_in done at).number == attempt.entry.number) ≡ false
     other-number at inside differs = (λ i. (entry-others at differs i).number == number i) ∙ sound.seats.apart at seat inside taken ∙ differs
 
     number-done : (entry_in done seat).number ≡ attempt.entry.number
-    number-done = ap (λ (e : Entry). e.number) entry-done
+    number-done = ap (λ (e : Active). e.number) entry-done
 
     locks-done : (at : ℕ) → has a.seating.taken at ≡ true → more (entry_in done at).number ≡ locks_in done at
     locks-done = by_seat {P = λ at. more (entry_in done at).number ≡ locks_in done at} a.seating.taken seat
         (ap more number-done ∙ ap (λ (b : Bool). if b then locks_in (locked a seat wants owned) seat else locks_told a attempt.entry.number) mine)
         (λ at inside differs.
         ap (λ (b : Bool). if b then locks_in (locked a seat wants owned) seat else locks_told a (entry_in done at).number) (other-number at inside differs)
-        ∙ ap (λ (e : Entry). locks_told a e.number) (entry-others at differs)
+        ∙ ap (λ (e : Active). locks_told a e.number) (entry-others at differs)
         ∙ at-number a.seating.taken (entry_in a) (locks_in a) no_lines at sound.seats inside
         ∙ ap lines_held (sym (other-with a.seating.holding seat (with_wants (of_seat a.seating.holding seat) (map (with_whole_page a.reach.directory) wants)) sound.seating.whole at differs)))
 
     requests-done : (at : ℕ) → has a.seating.taken at ≡ true → (entry_in done at).waiting ≡ true → requests_told a (entry_in done at).number ≡ request_in done at
     requests-done = by_seat {P = λ at. (entry_in done at).waiting ≡ true → requests_told a (entry_in done at).number ≡ request_in done at} a.seating.taken seat
-        (λ waits. absurd (both_ways (entry_in done seat).waiting (ap (λ (e : Entry). e.waiting) entry-done) waits))
+        (λ waits. absurd (both_ways (entry_in done seat).waiting (ap (λ (e : Active). e.waiting) entry-done) waits))
         (λ at inside differs waits.
-        ap (λ (e : Entry). requests_told a e.number) (entry-others at differs)
+        ap (λ (e : Active). requests_told a e.number) (entry-others at differs)
         ∙ at-number a.seating.taken (entry_in a) (request_in a) no_lines at sound.seats inside
         ∙ ap request_for (sym (sitter-other a.seating seat _ at differs)))
 
@@ -137,7 +137,7 @@ module _ (begins : Word → Turning) (attempt : Attempt) (refused : List ℕ) (a
     left-is : left ≡ over_all (state_in done seat) left.store
     left-is = plain-by committed done.reach seat live (live_in done seat) runner live-now
 
-    shown-as : (s t : Plain) (over : FlatStore) (e : Entry) → s ≡ over_all t s.store → IsState over e s → IsState over e t
+    shown-as : (s t : Plain) (over : FlatStore) (e : Active) → s ≡ over_all t s.store → IsState over e s → IsState over e t
     shown-as s t over e is stands = record { bytes = stands.bytes; at = stands.at ∙ ap (λ (p : Plain). Some (over_all p stands.bytes)) is }
 
     states-done : (at : ℕ) → has a.seating.taken at ≡ true → IsState store (entry_in done at) (state_in done at)
@@ -147,7 +147,7 @@ module _ (begins : Word → Turning) (attempt : Attempt) (refused : List ℕ) (a
         (λ at inside differs.
         subst (IsState store (entry_in done at))
         (ap (λ (b : Bool). if b then left else states_told a (entry_in done at).number) (other-number at inside differs)
-        ∙ ap (λ (e : Entry). states_told a e.number) (entry-others at differs)
+        ∙ ap (λ (e : Active). states_told a e.number) (entry-others at differs)
         ∙ at-number a.seating.taken (entry_in a) (state_in a) (state_in a 16) at sound.seats inside
         ∙ state-other at inside differs) (went-on.told.stand (entry_in done at) (among-done at inside)))
       where
@@ -158,13 +158,13 @@ module _ (begins : Word → Turning) (attempt : Attempt) (refused : List ℕ) (a
 
     wants-is : wanted old entry ≡ touched (program_in a seat) a.reach.directory (plain_over committed (live_in before seat).cpu before.reach (live_in before seat).out)
     wants-is = ap (wanted old) same ∙ wanted-is old attempt.entry attempt.now left (shown a committed) free.ready.now
-        (ap (row attempt.entry.runs.program a.reach.directory) shows ∙ ap (λ (e : Entry). row e.runs.program a.reach.directory (plain_over committed (live_in before seat).cpu before.reach (live_in before seat).out)) (sym same) ∙ went.goes.goes)
+        (ap (row attempt.entry.runs.program a.reach.directory) shows ∙ ap (λ (e : Active). row e.runs.program a.reach.directory (plain_over committed (live_in before seat).cpu before.reach (live_in before seat).out)) (sym same) ∙ went.goes.goes)
         ∙ ap (touched attempt.entry.runs.program a.reach.directory) shows
-        ∙ ap (λ (e : Entry). touched e.runs.program a.reach.directory (plain_over committed (live_in before seat).cpu before.reach (live_in before seat).out)) (sym same)
+        ∙ ap (λ (e : Active). touched e.runs.program a.reach.directory (plain_over committed (live_in before seat).cpu before.reach (live_in before seat).out)) (sym same)
 
-    marks-done : AreMarked store (entries done) (is_line_marked done.reach.pool)
+    marks-done : AreWrittenMarked store (entries done) (is_line_marked done.reach.pool)
     marks-done =
-        subst (λ (these : List Entry). AreMarked store these (is_line_marked done.reach.pool)) (ap (λ (e : Entry). replaced e (entries a)) (ap gone_on same) ∙ sym entries-done)
+        subst (λ (these : List Active). AreWrittenMarked store these (is_line_marked done.reach.pool)) (ap (λ (e : Active). replaced e (entries a)) (ap gone_on same) ∙ sym entries-done)
         (marked-row store a.most_lines a.next (entries a) free.follows.orderly.active (is_line_marked a.reach.pool) free.follows.kept.marked entry (is_line_marked done.reach.pool) here
         (λ line. went.goes.marks line ∙ (λ i. has (slice_index_or (moved.marked i) (page_of_line line) []) (line % 16) || has (sym wants-is i).writes line)))
 
@@ -179,7 +179,7 @@ module _ (begins : Word → Turning) (attempt : Attempt) (refused : List ℕ) (a
           asked = λ at inside waits.
               subst (λ (l : Lines). AreAlike l (requested store (entry_in done at))) (requests-done at inside waits) (went-on.told.kept.asked (entry_in done at) (among-done at inside) waits);
           stand = states-done;
-          is_current = subst (λ (these : List Entry). IsCurrent store these left.store) (sym entries-done) went-on.told.is_current;
+          is_current = subst (λ (these : List Active). IsCurrent store these left.store) (sym entries-done) went-on.told.is_current;
           marked = marks-done;
           clean = went.clean;
         };

@@ -1,5 +1,5 @@
 -- Who sits in a seat, and what runs there, when one seat changes; and what leaves all sound.
-use Rattle.activations.proofs.Common.{◌≡◌, refl, ℕ, zero, suc, ◌+◌, ◌-◌, ◌<◌, ◌==◌, true, false, List, length, slice_index_or, slice_set, None, [], arith, ap, sym, ◌∙◌, subst, get_or-set_same, get_or-set_other, set-set, eqb-true, eqb-false, has, over_all, Seat, Seating, sitter, number_in, newcomer, with_sitter, went_on, private_bytes, plain_over, Live, Activity, nothing_runs, live_in, state_in, shown, entry_for, entry_in, number_under, counted, nat_tests, inl, inr, cases_Bool, All, AllPairs, ForSome, length-set, All-set, AreWithin, Request, Pool, registers_of_program, IsSeating, taken-below, AreOfPage, private_segment, program_at, IsSound, ◌≤◌, IsState, store_over, state_for, reprinted, KeepsDesk, Reach, bytes_over, executed, IsSetUp, both_ways, Authority, page_count, unowned, IsIdentified}
+use Rattle.activations.proofs.Common.{◌≡◌, refl, ℕ, zero, suc, ◌+◌, ◌-◌, ◌<◌, ◌==◌, true, false, List, length, slice_index_or, slice_set, None, [], arith, ap, sym, ◌∙◌, subst, get_or-set_same, get_or-set_other, set-set, eqb-true, eqb-false, has, over_all, Seat, Seating, sitter, number_in, newcomer, with_sitter, went_on, private_bytes, plain_over, Live, Activity, nothing_runs, live_in, state_in, shown, entry_for, entry_in, number_under, counted, nat_tests, inl, inr, cases_Bool, All, AllPairs, ForSome, length-set, All-set, AreWithin, Request, Pool, registers_of_program, IsSeating, taken-below, AreOfPage, private_segment, program_at, IsActivitySound, ◌≤◌, IsState, store_over, state_for, reprinted, KeepsDesk, Reach, bytes_over, executed, IsSetUp, both_ways, Authority, page_count, unowned, IsIdentified}
 use Rattle.page_table.specs.declared.segment_regs.SegmentRegs.{SegmentRegs}
 
 module _ (seating : Seating) (seat : ℕ) (who : Seat) (sixteen : length seating.sitters ≡ 16) (below : seat < 16) where
@@ -79,9 +79,9 @@ counted-more a seat rows sixteen below i = record a { seating = record a.seating
         ∙ ap (slice_set a.seating.sitters seat) (ap (λ (who : Seat). record who { rows = who.rows + 1; waits = None }) is ∙ (λ i. record (sitter a.seating seat) { rows = rows_are i; waits = None }))
 
 -- numbers may have been given, frames may have other pages, pages other entries, and another seat may be selected
-pub sound-beside : (a : Activity) (next : ℕ) (pool : Pool) (owned : List Authority) (registers : SegmentRegs) (runner : ℕ) → IsSound a → All (λ seat. number_in a.seating seat < next) a.seating.taken
+pub sound-beside : (a : Activity) (next : ℕ) (pool : Pool) (owned : List Authority) (registers : SegmentRegs) (runner : ℕ) → IsActivitySound a → All (λ seat. number_in a.seating seat < next) a.seating.taken
     → length owned ≡ page_count a.reach.directory → ((page : ℕ) → IsIdentified a.seating.taken (slice_index_or owned page unowned))
-    → IsSound (record a { next = next; reach = record a.reach { pool = pool; entries = owned; registers = registers; runner = runner } })
+    → IsActivitySound (record a { next = next; reach = record a.reach { pool = pool; entries = owned; registers = registers; runner = runner } })
 sound-beside a next pool owned registers runner sound numbers entries identified = record {
   seating = sound.seating;
   seats = sound.seats;
@@ -98,7 +98,7 @@ sound-beside a next pool owned registers runner sound numbers entries identified
 }
 
 -- A seat's sitter may go on with the same number and program: with more rows, and with a request or without.
-module _ (a : Activity) (seat : ℕ) (who : Seat) (sound : IsSound a) (taken : has a.seating.taken seat ≡ true)
+module _ (a : Activity) (seat : ℕ) (who : Seat) (sound : IsActivitySound a) (taken : has a.seating.taken seat ≡ true)
     (number : who.number ≡ number_in a.seating seat) (program : who.program ≡ (sitter a.seating seat).program) where
   numbers : (at : ℕ) → number_in (with_sitter a.seating seat who) at ≡ number_in a.seating at
   numbers = number-there a.seating seat who sound.seating.sixteen (taken-below a.seating sound.seating seat taken) number
@@ -107,7 +107,7 @@ module _ (a : Activity) (seat : ℕ) (who : Seat) (sound : IsSound a) (taken : h
   there = sitter-there a.seating seat who sound.seating.sixteen (taken-below a.seating sound.seating seat taken)
 
   pub sound-reseated : ForSome who.waits (λ (request : Request). AreWithin a.seating.holding.pages request.wants.items) → ForSome who.waits (λ (request : Request). AreOfPage request.wants.items)
-      → IsSound (record a { seating = with_sitter a.seating seat who })
+      → IsActivitySound (record a { seating = with_sitter a.seating seat who })
   sound-reseated within sets = record {
     seating = seating-now;
     seats = record { apart = λ at other inside among. (λ i. numbers at i == numbers other i) ∙ sound.seats.apart at other inside among };
@@ -145,8 +145,8 @@ module _ (a : Activity) (seat : ℕ) (who : Seat) (sound : IsSound a) (taken : h
       programs at = let other = sitter-other a.seating seat who at in grind (arith, nat_tests, there, program, other)
 
 -- something else runs in a seat, over other bytes and marks of the frames
-pub sound-live : (a : Activity) (seat : ℕ) (live : Live) (bytes : List ℕ) (marked : List (List ℕ)) → IsSound a
-    → (has a.seating.taken seat ≡ true → (live.registers ≡ (live_in a seat).registers) × (length live.out ≡ live.cpu.printed) × (length live.out ≤ 4096)) → IsSound (executed a seat live bytes marked)
+pub sound-live : (a : Activity) (seat : ℕ) (live : Live) (bytes : List ℕ) (marked : List (List ℕ)) → IsActivitySound a
+    → (has a.seating.taken seat ≡ true → (live.registers ≡ (live_in a seat).registers) × (length live.out ≡ live.cpu.printed) × (length live.out ≤ 4096)) → IsActivitySound (executed a seat live bytes marked)
 sound-live a seat live bytes marked sound own = record {
   seating = sound.seating;
   seats = sound.seats;
@@ -190,7 +190,7 @@ module _ (a : Activity) (seat : ℕ) (out : List ℕ) (free : has a.seating.take
   elsewhere : (at : ℕ) → has a.seating.taken at ≡ true → live_in (reprinted a seat out) at ≡ live_in a at
   elsewhere at inside = live-other a.live seat (record (live_in a seat) { out = out }) at (grind (arith, nat_tests))
 
-  pub sound-reprinted : IsSound a → IsSound (reprinted a seat out)
+  pub sound-reprinted : IsActivitySound a → IsActivitySound (reprinted a seat out)
   sound-reprinted sound =
       sound-live a seat (record (live_in a seat) { out = out }) a.reach.pool.bytes a.reach.pool.marked sound (λ inside. absurd (both_ways (has a.seating.taken seat) free inside))
 

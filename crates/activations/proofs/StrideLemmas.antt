@@ -1,5 +1,5 @@
 -- A run of rows: how far it is, and what a step of it came to.
-use Rattle.activations.proofs.Lemmas.{◌≡◌, ◌≤◌, ◌<◌, ◌+◌, ℕ, Some, arith, sym, subst, Activity, Reach, Live, Access, Commit, Check, WasAttempted, IsSound, IsShut, with_live, took-either, came-still, came-either, none-yet, attempted-again, strode-one, strode-halted, inl, inr}
+use Rattle.activations.proofs.Lemmas.{◌≡◌, ◌≤◌, ◌<◌, ◌+◌, ℕ, Some, arith, sym, subst, Activity, Reach, Live, Access, Commit, Check, WasAttempted, IsActivitySound, IsLineShut, with_live, took-either, came-still, came-either, none-yet, attempted-again, strode-one, strode-halted, inl, inr}
 use Rattle.romp_cpu.specs.declared.cpu.Attempt.{Attempt}
 use Rattle.romp_cpu.specs.declared.storage.Fault.{Fault}
 use Rattle.std.specs.Prelude.{None}
@@ -20,7 +20,7 @@ module _ {limit ran : ℕ} {first reach new : Reach} {initial live next : Live} 
   -- a row that took effect is one more
   pub runs-one :
       (attempt : Attempt) → (attempt ≡ Attempt.Went) ⊎ ((byte : ℕ) × (attempt ≡ Attempt.Print byte)) → ran < limit
-      → ((a : Activity) (seat : ℕ) → RunsAt a seat reach live → IsSound (with_live a seat next new))
+      → ((a : Activity) (seat : ℕ) → RunsAt a seat reach live → IsActivitySound (with_live a seat next new))
       → ((a : Activity) (seat : ℕ) → RunsAt a seat reach live → WasAttempted attempt a seat (with_live a seat next new))
       → RunsOn limit first initial (ran + 1) new next
   runs-one attempt took below sound went =
@@ -51,7 +51,7 @@ module _ {limit ran : ℕ} {first reach new : Reach} {initial live next : Live} 
         let at = so.strode a seat here in
         let (still, shut) = attempted-again a seat ran live next reach new at (Attempt.Fault fault access) (went _ seat at.runs) in
         let same : access ≡ other = cc in
-        subst (λ (wants : Access). IsShut (with_live a seat next new) seat wants) same (subst (λ (x : Activity). IsShut x seat access) (sym still) shut);
+        subst (λ (wants : Access). IsLineShut (with_live a seat next new) seat wants) same (subst (λ (x : Activity). IsLineShut x seat access) (sym still) shut);
   }
 
   -- so does a commit call, and a check

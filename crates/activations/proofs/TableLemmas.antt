@@ -1,5 +1,5 @@
 -- The authority of pages under identifiers of seats, and a seat that is left: its entry goes, and its pages are nobody's.
-use Rattle.activations.proofs.Common.{not-false, ◌≡◌, refl, ℕ, suc, ◌+◌, ◌*◌, ◌/◌, ◌%◌, ◌<◌, ◌==◌, Bool, true, false, List, slice_index_or, arith, ap, sym, ◌∙◌, inl, inr, nat_tests, get_or_past, get_or-map-range_with_len, length-map-range_with_len, passing, has, page_of_line, permits, flat_lines, has-page, Authority, grant_of, lets, unowned, nobody, IsThere, StandsFor, Ascend, permitted-told, seat-told, sitter, IsOpenLine, Activity, flat_authority, authority_at, authority_under, number_under, entry_in, entries, desk_over, IsSound, KeepsDesk, IsIdentified, Grant, zero, ◌≤◌, not, if◌then◌else◌, [], ◌∷◌, length, map, slice_set, range_with_len, subst, get_or-set_same, get_or-set_other, eqb-false, and_parts, and_from, not-true, length-map, length-set, get_or-map, All-filter, IsOfPage, has-filter, cleared_entry, owners_told, freed-told, others, told-others, number_in, left, taken-below, kept-left, same-with, other-with, of_page, nothing, of_seat, no_lines_of, released, authority_told, AreOfPages, vacated, cond_both, map-map, cases_lt}
+use Rattle.activations.proofs.Common.{not-false, ◌≡◌, refl, ℕ, suc, ◌+◌, ◌*◌, ◌/◌, ◌%◌, ◌<◌, ◌==◌, Bool, true, false, List, slice_index_or, arith, ap, sym, ◌∙◌, inl, inr, nat_tests, get_or_past, get_or-map-range_with_len, length-map-range_with_len, passing, has, page_of_line, permits, flat_lines, has-page, Authority, grant_of, lets, unowned, nobody, IsThere, StandsFor, NumbersAscend, permitted-told, seat-told, sitter, IsOpenLine, Activity, flat_authority, authority_at, authority_under, number_under, entry_in, entries, desk_over, IsActivitySound, KeepsDesk, IsIdentified, Grant, zero, ◌≤◌, not, if◌then◌else◌, [], ◌∷◌, length, map, slice_set, range_with_len, subst, get_or-set_same, get_or-set_other, eqb-false, and_parts, and_from, not-true, length-map, length-set, get_or-map, All-filter, IsOfPage, has-filter, cleared_entry, owners_told, freed-told, others, told-others, number_in, seat_left, taken-below, kept-left, same-with, other-with, of_page, nothing, of_seat, no_lines_of, released, authority_told, AreHeldOfPages, vacated, cond_both, map-map, cases_lt}
 use Rattle.desk_law.proofs.Entries.{between}
 use Rattle.activations.proofs.SittingLemmas.{each_seat}
 
@@ -22,7 +22,7 @@ permits-flat owned line tid store =
     (ap (has (flat_lines (line / 16) (grant_of (slice_index_or owned (line / 16) unowned)).lines)) whole
     ∙ has-page (line / 16) (line % 16) (grant_of (slice_index_or owned (line / 16) unowned)).lines)
 
-module _ (a : Activity) (sound : IsSound a) (committed : List ℕ) (ascend : Ascend 0 (entries a) a.next) where
+module _ (a : Activity) (sound : IsActivitySound a) (committed : List ℕ) (ascend : NumbersAscend 0 (entries a) a.next) where
   -- those that sit have numbers from 1 on
   pub number-some : (seat : ℕ) → has a.seating.taken seat ≡ true → 0 < (sitter a.seating seat).number
   number-some seat taken = (between 0 a.next (entries a) (entry_in a seat) ascend (seat-told a.seating.taken (entry_in a) seat taken)).0
@@ -42,7 +42,7 @@ module _ (a : Activity) (sound : IsSound a) (committed : List ℕ) (ascend : Asc
           let next : other + 1 ≡ suc other = omega arith in let at = ap (number_under a) (is ∙ next) in let apart = sound.seats.apart other seat inside taken in
           grind (arith, nat_tests, is, at, apart)
 
-module _ (a : Activity) (sound : IsSound a) (committed : List ℕ) (follows : KeepsDesk a committed) where
+module _ (a : Activity) (sound : IsActivitySound a) (committed : List ℕ) (follows : KeepsDesk a committed) where
   -- a line that is open to the selected seat is there for its activation
   pub there : (seat : ℕ) (order : List (ℕ × ℕ)) (line : ℕ) (store : Bool) → has a.seating.taken seat ≡ true → a.reach.runner ≡ seat + 1
       → IsOpenLine a.reach line store → IsThere (desk_over a committed order) (sitter a.seating seat).number line store
@@ -82,18 +82,18 @@ no-line-of-page : IsOfPage []
 unfolding passing
 no-line-of-page = refl
 
-pub none-of-pages : (pages : ℕ) → AreOfPages (no_lines_of pages)
+pub none-of-pages : (pages : ℕ) → AreHeldOfPages (no_lines_of pages)
 none-of-pages pages = record {
   reads = λ page. subst (λ (held : List ℕ × List ℕ). IsOfPage held.0) (sym (none-of-page pages page)) no-line-of-page;
   writes = λ page. subst (λ (held : List ℕ × List ℕ). IsOfPage held.1) (sym (none-of-page pages page)) no-line-of-page;
 }
 
-module _ (a : Activity) (seat : ℕ) (sound : IsSound a) (taken : has a.seating.taken seat ≡ true) where
+module _ (a : Activity) (seat : ℕ) (sound : IsActivitySound a) (taken : has a.seating.taken seat ≡ true) where
   below : seat < 16
   below = taken-below a.seating sound.seating seat taken
 
   -- those that are left
-  pub left-taken : (at : ℕ) → has (left a.seating seat).taken at ≡ true → (has a.seating.taken at ≡ true) × ((at == seat) ≡ false)
+  pub left-taken : (at : ℕ) → has (seat_left a.seating seat).taken at ≡ true → (has a.seating.taken at ≡ true) × ((at == seat) ≡ false)
   left-taken at inside =
       let parts = and_parts (has a.seating.taken at) (not (at == seat)) (sym (has-filter (λ other. not (other == seat)) a.seating.taken at) ∙ inside) in
       (parts.0, not-true (at == seat) parts.1)
@@ -109,22 +109,22 @@ module _ (a : Activity) (seat : ℕ) (sound : IsSound a) (taken : has a.seating.
   begun-other : (at : ℕ) → (at == seat) ≡ false → slice_index_or (slice_set a.reach.begun seat false) at false ≡ slice_index_or a.reach.begun at false
   begun-other at differs = get_or-set_other a.reach.begun seat at false false (eqb-false at seat differs)
 
-  identified-left : (one : Authority) → IsIdentified a.seating.taken one → IsIdentified (left a.seating seat).taken (cleared_entry (seat + 1) one)
+  identified-left : (one : Authority) → IsIdentified a.seating.taken one → IsIdentified (seat_left a.seating seat).taken (cleared_entry (seat + 1) one)
   identified-left one (inl none) = inl (grind arith)
-  identified-left one (inr (other, inside, same)) = cond_both (one.tid == seat + 1) _ _ (IsIdentified (left a.seating seat).taken) (λ _. inl refl) (λ e.
+  identified-left one (inr (other, inside, same)) = cond_both (one.tid == seat + 1) _ _ (IsIdentified (seat_left a.seating seat).taken) (λ _. inl refl) (λ e.
       let differs : (other == seat) ≡ false = grind (arith, nat_tests, e, same) in
       inr (other, has-filter (λ other. not (other == seat)) a.seating.taken other ∙ and_from (has a.seating.taken other) (not (other == seat)) inside (ap not differs), same))
 
-  pub sound-left : IsSound (vacated a seat)
+  pub sound-left : IsActivitySound (vacated a seat)
   sound-left = record {
     seating = kept-left a.seating sound.seating seat below;
     seats = record { apart = λ at other inside there. sound.seats.apart at other (left-taken at inside).0 (left-taken other there).0 };
     numbers = All-filter (λ other. not (other == seat)) (λ at. number_in a.seating at < a.next) a.seating.taken sound.numbers;
     live = sound.live;
     pages = sound.pages;
-    lines = each_seat {P = λ at. AreOfPages (of_seat (released a.seating.holding seat) at)} seat
-        (subst AreOfPages (sym (same-with a.seating.holding seat (no_lines_of a.seating.holding.pages) sound.seating.whole below)) (none-of-pages a.seating.holding.pages))
-        (λ at e. subst AreOfPages (sym (other-with a.seating.holding seat (no_lines_of a.seating.holding.pages) sound.seating.whole at e)) (sound.lines at));
+    lines = each_seat {P = λ at. AreHeldOfPages (of_seat (released a.seating.holding seat) at)} seat
+        (subst AreHeldOfPages (sym (same-with a.seating.holding seat (no_lines_of a.seating.holding.pages) sound.seating.whole below)) (none-of-pages a.seating.holding.pages))
+        (λ at e. subst AreHeldOfPages (sym (other-with a.seating.holding seat (no_lines_of a.seating.holding.pages) sound.seating.whole at e)) (sound.lines at));
     requests = λ at request inside waits. sound.requests at request (left-taken at inside).0 waits;
     begun = length-set a.reach.begun seat false ∙ sound.begun;
     entries = length-map a.reach.entries (cleared_entry (seat + 1)) ∙ sound.entries;
@@ -137,7 +137,7 @@ module _ (a : Activity) (seat : ℕ) (sound : IsSound a) (taken : has a.seating.
         let other = begun-other at in grind (arith, nat_tests, there, is, was, other);
     identified = λ page. elim (cases_lt page (length a.reach.entries)) [
       | inl below ↦
-          subst (IsIdentified (left a.seating seat).taken) (sym (get_or-map (cleared_entry (seat + 1)) a.reach.entries page unowned unowned below)) (identified-left (slice_index_or a.reach.entries page unowned) (sound.identified page))
+          subst (IsIdentified (seat_left a.seating seat).taken) (sym (get_or-map (cleared_entry (seat + 1)) a.reach.entries page unowned unowned below)) (identified-left (slice_index_or a.reach.entries page unowned) (sound.identified page))
       | inr out ↦ inl (get_or_past (map (cleared_entry (seat + 1)) a.reach.entries) page unowned (let long = length-map a.reach.entries (cleared_entry (seat + 1)) in omega (arith, out, long)))
     ];
   }

@@ -1,5 +1,5 @@
 -- The lines that an access touches, page by page, and how many will have been written with them.
-use Rattle.activations.proofs.Common.{◌==◌, range_with_len, nat_tests, passing, between, append-nil, get_or-map-range_with_len, flat_lines, lines_wanted, lines_between, pages_of, ◌≡◌, ℕ, ◌+◌, ◌-◌, ◌*◌, ◌/◌, ◌%◌, ◌<◌, ◌≤◌, Bool, true, false, List, [], ◌∷◌, ◌++◌, refl, sym, ◌∙◌, ap, arith, map, get_or, or_parts, subst, eq-eqb, ne_eqb, both_ways, length-range_with_len, sum_by-le, All-nil, All-cons, All-head, All-get_or, All-from_get_or, PageSize, Two, Four, Layout, start_of, length_of, byte_count, page_count, IsLegal, line_of, line_count, difference, IsOfPage, line_bytes, of_page_where, line-below, segment-within, has, Lines, no_lines, Want, nothing, write_count, of_seat, held_at, Program, in_segment, in_register, located, lines_at, Registers, located_by, virtual_at, Access, lines_of_access, registers_of_program, AreDistinct, filter-short, AreOfPage, private_segment, is_private, offset_of, place_at, Activity, live_in, program_in, AreOfPages, IsSound, lines_with, Touch, pages_wanted, wants_of, AreWanted, zero, suc, ◌^◌, ◌||◌, ◌&&◌, nat_le, if◌then◌else◌, length, Option, Some, None, Result, Ok, Err, Located, Private, Shared, Refused}
+use Rattle.activations.proofs.Common.{◌==◌, range_with_len, nat_tests, passing, between, append-nil, get_or-map-range_with_len, flat_lines, lines_wanted, lines_between, pages_of, ◌≡◌, ℕ, ◌+◌, ◌-◌, ◌*◌, ◌/◌, ◌%◌, ◌<◌, ◌≤◌, Bool, true, false, List, [], ◌∷◌, ◌++◌, refl, sym, ◌∙◌, ap, arith, map, get_or, or_parts, subst, eq-eqb, ne_eqb, both_ways, length-range_with_len, sum_by-le, All-nil, All-cons, All-head, All-get_or, All-from_get_or, PageSize, Two, Four, Layout, start_of, length_of, byte_count, page_count, AreSegmentsLegal, line_of, line_count, difference, IsOfPage, line_bytes, of_page_where, line-below, segment-within, has, Lines, no_lines, Want, nothing, write_count, of_seat, held_at, Program, in_segment, in_register, located, lines_at, Registers, located_by, virtual_at, Access, lines_of_access, registers_of_program, AreDistinct, filter-short, AreOfPage, private_segment, is_private, offset_of, place_at, Activity, live_in, program_in, AreHeldOfPages, IsActivitySound, lines_with, TouchedLines, pages_wanted, wants_of, AreWanted, zero, suc, ◌^◌, ◌||◌, ◌&&◌, nat_le, if◌then◌else◌, length, Option, Some, None, Result, Ok, Err, Located, Private, Shared, Refused}
 use Rattle.flat_machine.specs.declared.machine.Window.{Window}
 use Rattle.page_table.specs.declared.segment_regs.Check.{Check}
 use Rattle.page_table.specs.declared.segment_regs.Virtual.{Virtual}
@@ -174,7 +174,7 @@ empty true = refl
 empty false = refl
 
 -- The access of who sits in a seat.
-module _ (a : Activity) (seat : ℕ) (sound : IsSound a) (taken : has a.seating.taken seat ≡ true) (legal : IsLegal a.reach.directory.segments) (access : Access) where
+module _ (a : Activity) (seat : ℕ) (sound : IsActivitySound a) (taken : has a.seating.taken seat ≡ true) (legal : AreSegmentsLegal a.reach.directory.segments) (access : Access) where
   found-where : (found : Result Virtual Check) → located_by (live_in a seat).registers access.address access.bytes access.store ≡ found
       → place_at a.reach.directory found ≡ located (program_in a seat) a.reach.directory access.address access.bytes access.store
   found-where found is =
@@ -233,7 +233,7 @@ few-of-page set of =
     let same = ap length of in omega (arith, all, kept, same)
 
 -- so what is held of so few pages is few
-pub few-written : (pages : List (List ℕ × List ℕ)) → AreOfPages pages → length pages ≤ 1024 → write_count pages ≤ 16384
+pub few-written : (pages : List (List ℕ × List ℕ)) → AreHeldOfPages pages → length pages ≤ 1024 → write_count pages ≤ 16384
 few-written pages of few =
     omega (
       arith,
@@ -243,36 +243,36 @@ few-written pages of few =
     )
 
 -- How many lines will have been written, with those of a touch.
-module _ (a : Activity) (seat : ℕ) (sound : IsSound a) where
+module _ (a : Activity) (seat : ℕ) (sound : IsActivitySound a) where
   abbrev pages : List (List ℕ × List ℕ)
   pages = of_seat a.seating.holding seat
 
-  pub few-held : IsLegal a.reach.directory.segments → seat < 16 → write_count pages ≤ 16384
+  pub few-held : AreSegmentsLegal a.reach.directory.segments → seat < 16 → write_count pages ≤ 16384
   few-held legal below =
       let long : length pages ≡ a.seating.holding.pages =
       All-get_or (λ (held : List (List ℕ × List ℕ)). length held ≡ a.seating.holding.pages) a.seating.holding.seats seat [] (omega (arith, below, sound.seating.whole.0)) sound.seating.whole.1 in
       few-written pages (sound.lines seat) (omega (arith, long, sound.pages, legal.pages))
 
-  pub counts-none : (touch : Touch) → touch ≡ Touch.Nothing → write_count pages ≡ lines_with a seat (wants_of touch)
+  pub counts-none : (touch : TouchedLines) → touch ≡ TouchedLines.Nothing → write_count pages ≡ lines_with a seat (wants_of touch)
   counts-none touch is =
       sym (written-none pages (sound.lines seat) (record { reads = All-nil (λ (w : Want). IsOfPage w.reads); writes = All-nil (λ (w : Want). IsOfPage w.writes) }))
-      ∙ ap (λ (t : Touch). lines_with a seat (wants_of t)) (sym is)
+      ∙ ap (λ (t : TouchedLines). lines_with a seat (wants_of t)) (sym is)
 
-  module _ (touch : Touch) (wanted : AreWanted a.reach.directory (wants_of touch)) where
-    pub counts-one : (want : Want) → touch ≡ Touch.One want
+  module _ (touch : TouchedLines) (wanted : AreWanted a.reach.directory (wants_of touch)) where
+    pub counts-one : (want : Want) → touch ≡ TouchedLines.One want
         → write_count pages + length (difference want.writes (held_at a.seating.holding seat want.page).1) ≡ lines_with a seat (wants_of touch)
     counts-one want is =
-        sym (written-one pages (sound.lines seat) want (subst (λ (t : Touch). AreOfPage (wants_of t)) is wanted.sets))
-        ∙ ap (λ (t : Touch). lines_with a seat (wants_of t)) (sym is)
+        sym (written-one pages (sound.lines seat) want (subst (λ (t : TouchedLines). AreOfPage (wants_of t)) is wanted.sets))
+        ∙ ap (λ (t : TouchedLines). lines_with a seat (wants_of t)) (sym is)
 
-    module _ (first second : Want) (is : touch ≡ Touch.Two first second) where
+    module _ (first second : Want) (is : touch ≡ TouchedLines.Two first second) where
       pub counts-two : write_count pages
           + (length (difference first.writes (held_at a.seating.holding seat first.page).1) + length (difference second.writes (held_at a.seating.holding seat second.page).1))
           ≡ lines_with a seat (wants_of touch)
       counts-two =
-          sym (written-two pages (sound.lines seat) first second (subst (λ (t : Touch). AreOfPage (wants_of t)) is wanted.sets) others)
-          ∙ ap (λ (t : Touch). lines_with a seat (wants_of t)) (sym is)
+          sym (written-two pages (sound.lines seat) first second (subst (λ (t : TouchedLines). AreOfPage (wants_of t)) is wanted.sets) others)
+          ∙ ap (λ (t : TouchedLines). lines_with a seat (wants_of t)) (sym is)
         where
           others : first.page ≡ second.page → ⊥
           others same = both_ways (second.page == first.page)
-              (or_parts (second.page == first.page) false (subst (λ (t : Touch). AreDistinct (pages_wanted (wants_of t))) is wanted.once).0).0 (eq-eqb second.page first.page (sym same))
+              (or_parts (second.page == first.page) false (subst (λ (t : TouchedLines). AreDistinct (pages_wanted (wants_of t))) is wanted.once).0).0 (eq-eqb second.page first.page (sym same))

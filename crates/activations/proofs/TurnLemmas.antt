@@ -1,5 +1,5 @@
 -- The rows of a turn, instruction by instruction.
-use Rattle.activations.proofs.Common.{live_in, ◌≡◌, refl, ℕ, suc, ◌+◌, ◌-◌, ◌<◌, ◌≤◌, true, List, length, arith, ap, sym, ◌∙◌, subst, nat_tests, has, Ghosts, ending_told, Desk, Word, ReadFailed, Counts, Turning, Going, Ending, Limit, Disk, turns, TurnEnd, Reads, IsAmong, IsOrderly, seat-told, Seating, number_in, taken-below, Tally, Activity, entry_in, entries, desk_over, Strode, IsSound, KeepsDesk, GoesUncounted, IsEndOfRows, KeepsParts, StaysSeated, ComesToEnd, instruction_in, counted, HasBroken, HasEnded, tally_counts, IsAtCommit, IsTurning, selected_in, turn_in, commit_call, FewerLater, OnlyAsks, asks_on, KeptStore, IsStoreOf, KeepsAll}
+use Rattle.activations.proofs.Common.{live_in, ◌≡◌, refl, ℕ, suc, ◌+◌, ◌-◌, ◌<◌, ◌≤◌, true, List, length, arith, ap, sym, ◌∙◌, subst, nat_tests, has, Ghosts, ending_told, Desk, DiskWord, ReadFailed, Counts, Turning, Going, Ending, Limit, Disk, turns, TurnEnd, Reads, IsAmong, IsOrderly, seat-told, Seating, number_in, taken-below, Tally, Activity, entry_in, entries, desk_over, Strode, IsActivitySound, KeepsDesk, GoesUncounted, IsEndOfRows, KeepsParts, StaysSeated, ComesToEnd, instruction_in, counted, HasBroken, HasEnded, tally_counts, IsAtCommit, IsTurning, selected_in, turn_in, commit_call, FewerLater, OnlyAsks, asks_on, StoreView, IsStoreOf, KeepsAll}
 use Rattle.desk_law.proofs.TurnLoop.{turning-goes, turning-ends, turning-commits, turning-limit}
 use Rattle.desk.specs.declared.answers.TurnEnd.TheVariants as end
 use Rattle.desk_law.proofs.TurnLoop as law
@@ -14,7 +14,7 @@ pub turn-begins : (a : Activity) (seat limit : ℕ) (committed : List ℕ) (orde
 turn-begins a seat limit committed order counts follows = record { comes = λ word reads. refl; follows = follows }
 
 -- rows that were strode over
-pub turn-strides : (begins : Word → Turning) (a after : Activity) (seat rows ran left : ℕ) (committed : List ℕ) (order : List (ℕ × ℕ)) (counts : Counts) → IsSound a → has a.seating.taken seat ≡ true
+pub turn-strides : (begins : DiskWord → Turning) (a after : Activity) (seat rows ran left : ℕ) (committed : List ℕ) (order : List (ℕ × ℕ)) (counts : Counts) → IsActivitySound a → has a.seating.taken seat ≡ true
     → Strode a seat ran after → 1 + ran ≡ 1 + rows → IsTurning begins (counted a seat 1) seat (rows + left) committed order (record counts { ran = counts.ran + 1 })
     → IsTurning begins (counted after seat (1 + ran)) seat left committed order (record counts { ran = counts.ran + (1 + ran) })
 turn-strides begins a after seat rows ran left committed order counts sound taken strode same turning =
@@ -37,8 +37,8 @@ turn-strides begins a after seat rows ran left committed order counts sound take
 unread : (counted page : ℕ) → counted < page → Reads (ReadFailed page) counted
 unread counted page less at few = grind (arith, nat_tests, less, few)
 
-module _ (begins : Word → Turning) (a : Activity) (seat left : ℕ) (committed : List ℕ) (order : List (ℕ × ℕ)) (counts : Counts)
-    (sound : IsSound a) (taken : has a.seating.taken seat ≡ true) (some : 0 < left) (turning : IsTurning begins a seat left committed order counts) where
+module _ (begins : DiskWord → Turning) (a : Activity) (seat left : ℕ) (committed : List ℕ) (order : List (ℕ × ℕ)) (counts : Counts)
+    (sound : IsActivitySound a) (taken : has a.seating.taken seat ≡ true) (some : 0 < left) (turning : IsTurning begins a seat left committed order counts) where
   abbrev desk : Desk
   desk = desk_over a committed order
 
@@ -52,7 +52,7 @@ module _ (begins : Word → Turning) (a : Activity) (seat left : ℕ) (committed
   on = record { comes = λ word reads. turning.comes word reads ∙ ap (λ (n : ℕ). turns word (number_in a.seating seat) n (Going desk counts)) (omega (arith, some)) }
 
   -- a row took effect
-  pub turn-goes : (after : Activity) (more : Counts) → IsSound after → StaysSeated a after seat → counts.pages ≤ more.pages → GoesUncounted (instruction_in a seat committed order counts) after seat committed order more
+  pub turn-goes : (after : Activity) (more : Counts) → IsActivitySound after → StaysSeated a after seat → counts.pages ≤ more.pages → GoesUncounted (instruction_in a seat committed order counts) after seat committed order more
       → IsTurning begins (counted after seat 1) seat (left - 1) committed order (record more { ran = more.ran + 1 })
   turn-goes after more later stays grows goes =
       let number : number_in a.seating seat ≡ number_in (counted after seat 1).seating seat = sym (number-counted after seat 1 later.seating.sixteen (taken-below after.seating later.seating seat stays.taken) seat ∙ stays.number) in
@@ -96,7 +96,7 @@ module _ (begins : Word → Turning) (a : Activity) (seat left : ℕ) (committed
   turn-ends G start now old new end after same grows rows ended = λ printed. over after (tally_counts new) (ending_told end printed) (omega (arith, same, grows)) (ended printed)
 
 -- no rows are left
-pub turn-limit : (begins : Word → Turning) (a : Activity) (seat : ℕ) (committed : List ℕ) (order : List (ℕ × ℕ)) (counts : Counts) → IsTurning begins a seat 0 committed order counts → ComesToEnd begins a committed order counts Limit
+pub turn-limit : (begins : DiskWord → Turning) (a : Activity) (seat : ℕ) (committed : List ℕ) (order : List (ℕ × ℕ)) (counts : Counts) → IsTurning begins a seat 0 committed order counts → ComesToEnd begins a committed order counts Limit
 turn-limit begins a seat committed order counts turning = record {
   comes = λ word reads. turning-limit begins (number_in a.seating seat) (desk_over a committed order) counts (record { comes = turning.comes }) word reads;
   follows = turning.follows;
@@ -111,7 +111,7 @@ follows-selected a seat committed follows =
       kept = record { long = kept.long; held = kept.held; asked = kept.asked; stand = kept.stand; is_current = kept.is_current; marked = kept.marked; clean = kept.clean };
     }
 
-pub sound-selected : (a : Activity) (seat : ℕ) → IsSound a → IsSound (selected_in a seat)
+pub sound-selected : (a : Activity) (seat : ℕ) → IsActivitySound a → IsActivitySound (selected_in a seat)
 sound-selected a seat sound = sound-beside a a.next a.reach.pool a.reach.entries (live_in a seat).registers (seat + 1) sound sound.numbers sound.entries sound.identified
 
 pub keeps-selected : (a b : Activity) (seat more : ℕ) → KeepsParts (selected_in a seat) b more → KeepsParts a b more
@@ -135,7 +135,7 @@ keeps-ran G fewer_later a first old back new seat limit left u v w x shape asks 
 }
 
 -- what a turn comes to so far, over a disk that was only asked
-pub so-far : {W : Type 0} (G : Ghosts W) (fewer_later : FewerLater G) (store : KeptStore) (u v w : W) (committed : List ℕ) (P Q : Type 0) → OnlyAsks G u v → OnlyAsks G v w → IsStoreOf G store u committed
+pub so-far : {W : Type 0} (G : Ghosts W) (fewer_later : FewerLater G) (store : StoreView) (u v w : W) (committed : List ℕ) (P Q : Type 0) → OnlyAsks G u v → OnlyAsks G v w → IsStoreOf G store u committed
     → (IsStoreOf G store v committed → P → Q) → P → IsStoreOf G store w committed × Q
 so-far G fewer_later store u v w committed P Q asks step is leads so =
     let here = store-on G fewer_later store u v committed asks is in

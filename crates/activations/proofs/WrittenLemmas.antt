@@ -1,5 +1,5 @@
 -- The pages into which a seat wrote, one after another.
-use Rattle.activations.proofs.Common.{and-true, arith, ap, sym, ◌∙◌, subst, eq-eqb, both_ways, and_parts, and_from, or_left, or_right, nat_tests, append-nil, take_more, get_or_past, All-get_or, filter-append, Layout, byte_count, page_count, line_of, has, page_of_line, has-filter, holds_some, nothing, Holding, IsWhole, held_at, of_seat, has-at, Pool, undone, settled, Reach, IsClean, is_line_marked, bytes_over, Fits, Keeps, AreWritten, HasUndone, HasSettled, WereUndone, AreAsCommitted, WereSettled, ◌≡◌, refl, ℕ, suc, ◌+◌, ◌%◌, ◌<◌, ◌==◌, not, if◌then◌else◌, Bool, true, false, List, [], ◌∷◌, ◌++◌, filter, length, slice_index, take, slice_index_or}
+use Rattle.activations.proofs.Common.{and-true, arith, ap, sym, ◌∙◌, subst, eq-eqb, both_ways, and_parts, and_from, or_left, or_right, nat_tests, append-nil, take_more, get_or_past, All-get_or, filter-append, Layout, byte_count, page_count, line_of, has, page_of_line, has-filter, holds_some, nothing, Holding, IsWholeHolding, held_at, of_seat, has-at, Pool, page_undone, settled, Reach, IsClean, is_line_marked, bytes_over, PoolFits, PoolKeeps, AreWritten, HasUndone, HasSettled, WereUndone, AreAsCommitted, WereSettled, ◌≡◌, refl, ℕ, suc, ◌+◌, ◌%◌, ◌<◌, ◌==◌, not, if◌then◌else◌, Bool, true, false, List, [], ◌∷◌, ◌++◌, filter, length, slice_index, take, slice_index_or}
 use Rattle.storage_unit.proofs.UndoForgets.{undo-forgets}
 use Rattle.storage_unit.proofs.SettleKeeps.{settle-keeps}
 use Rattle.activations.proofs.CommitLemmas.{were-settled, settled-unseen}
@@ -24,7 +24,7 @@ pub record SettledSo (lines : ℕ → List ℕ) (pages : List ℕ) (old new : Re
   pub keeps : (committed : List ℕ) → IsClean old.directory old.pool committed
       → ((place : ℕ) → place < byte_count old.directory → has (lines (page_of_line (line_of old.directory place))) (line_of old.directory place % 16) ≡ true
       → slice_index (bytes_over old.directory old.pool committed) place ≡ slice_index committed place)
-      → Keeps old.directory old.pool new.pool committed
+      → PoolKeeps old.directory old.pool new.pool committed
 
 -- the one where what was written isn't committed, the other where it is
 pub record WrittenSo (committed : Bool) (lines : ℕ → List ℕ) (pages : List ℕ) (old new : Reach) : Type 0 where
@@ -47,14 +47,14 @@ module _ (lines : ℕ → List ℕ) (old : Reach) where
   }
 
   -- one more
-  module _ (pages : List ℕ) (now next : Reach) (page : ℕ) (fits : Fits now.directory now.pool) (below : page < page_count old.directory) (rest : now ≡ record old { pool = now.pool }) where
-    here : Fits old.directory now.pool
-    here = subst (λ (d : Layout). Fits d now.pool) (ap (λ (r : Reach). r.directory) rest) fits
+  module _ (pages : List ℕ) (now next : Reach) (page : ℕ) (fits : PoolFits now.directory now.pool) (below : page < page_count old.directory) (rest : now ≡ record old { pool = now.pool }) where
+    here : PoolFits old.directory now.pool
+    here = subst (λ (d : Layout). PoolFits d now.pool) (ap (λ (r : Reach). r.directory) rest) fits
 
     shape : (pool : Pool) → next ≡ record now { pool = pool } → next ≡ record old { pool = pool }
     shape pool is = is ∙ ap (λ (r : Reach). (let new : Reach = record r { pool = pool } in new)) rest
 
-    undone-more : UndoneSo lines pages old now → UndoneSo lines (pages ++ page ∷ []) old (record old { pool = undone now.pool page (lines page) })
+    undone-more : UndoneSo lines pages old now → UndoneSo lines (pages ++ page ∷ []) old (record old { pool = page_undone now.pool page (lines page) })
     undone-more so = record {
       were = were-undone old.directory lines pages old.pool now.pool here page below so.were;
       are = λ committed long clean. are-as-committed old.directory lines pages old.pool now.pool here page below undo-forgets committed long (so.are committed long clean);
@@ -67,9 +67,9 @@ module _ (lines : ℕ → List ℕ) (old : Reach) where
           settled-unseen settle-keeps old.directory lines old.pool now.pool committed here page below as_committed (so.keeps committed clean as_committed);
     }
 
-    pub written-undone : {committed : Bool} → committed ≡ false → next ≡ record now { pool = undone now.pool page (lines page) } → WrittenSo committed lines pages old now → WrittenSo committed lines (pages ++ page ∷ []) old next
+    pub written-undone : {committed : Bool} → committed ≡ false → next ≡ record now { pool = page_undone now.pool page (lines page) } → WrittenSo committed lines pages old now → WrittenSo committed lines (pages ++ page ∷ []) old next
     written-undone {committed} not is so =
-        subst (WrittenSo committed lines (pages ++ page ∷ []) old) (sym (shape (undone now.pool page (lines page)) is))
+        subst (WrittenSo committed lines (pages ++ page ∷ []) old) (sym (shape (page_undone now.pool page (lines page)) is))
         (record { rest = refl; undone = λ same. undone-more (so.undone same); settled = λ same. absurd (cc (not, same)) })
 
     pub written-settled : {committed : Bool} → committed ≡ true → next ≡ record now { pool = settled now.pool page (lines page) } → WrittenSo committed lines pages old now → WrittenSo committed lines (pages ++ page ∷ []) old next
@@ -85,19 +85,19 @@ written-more lines pages at before some wrote = ap (written_in lines) (take_more
     ∙ ap (λ (b : Bool). written_in lines (take at pages) ++ (if b then slice_index_or pages at 0 ∷ [] else [])) wrote
 
 -- a page of which something is held is one of the store's
-pub held-below : (holding : Holding) (seat page : ℕ) → IsWhole holding → seat < 16 → holds_some (held_at holding seat page) ≡ true → page < holding.pages
+pub held-below : (holding : Holding) (seat page : ℕ) → IsWholeHolding holding → seat < 16 → holds_some (held_at holding seat page) ≡ true → page < holding.pages
 held-below holding seat page whole below some =
     let long = All-get_or (λ one. length one ≡ holding.pages) holding.seats seat [] (omega (arith, below, whole.0)) whole.1 in
     let past = get_or_past (of_seat holding seat) page nothing in grind (arith, long, past, some)
 
-pub page-held : (holding locks : Holding) (seat : ℕ) (pages : List ℕ) (at : ℕ) → locks ≡ holding → IsWhole holding → seat < 16 → at < length pages
+pub page-held : (holding locks : Holding) (seat : ℕ) (pages : List ℕ) (at : ℕ) → locks ≡ holding → IsWholeHolding holding → seat < 16 → at < length pages
     → ((page : ℕ) → has pages page ≡ holds_some (held_at locks seat page)) → slice_index_or pages at 0 < holding.pages
 page-held holding locks seat pages at is whole below before each =
     held-below holding seat (slice_index_or pages at 0) whole below
     (ap (λ (h : Holding). holds_some (held_at h seat (slice_index_or pages at 0))) (sym is) ∙ sym (each (slice_index_or pages at 0)) ∙ has-at pages at 0 before)
 
 -- and is one of the unit's, of whose pages some have gone already
-pub page-there : (holding locks : Holding) (seat : ℕ) (pages : List ℕ) (at : ℕ) → locks ≡ holding → IsWhole holding → seat < 16 → at < length pages
+pub page-there : (holding locks : Holding) (seat : ℕ) (pages : List ℕ) (at : ℕ) → locks ≡ holding → IsWholeHolding holding → seat < 16 → at < length pages
     → ((page : ℕ) → has pages page ≡ holds_some (held_at locks seat page)) → (old now : Reach) → holding.pages ≡ page_count old.directory → now ≡ record old { pool = now.pool }
     → slice_index_or pages at 0 < page_count now.directory
 page-there holding locks seat pages at is whole below before each old now same rest =
@@ -134,7 +134,7 @@ module _ (holding : Holding) (seat : ℕ) (pages : List ℕ) (each : (page : ℕ
 
   module _ (committed : Bool) (old new : Reach) (so : WrittenSo committed (lines_of holding seat) (written_in (lines_of holding seat) pages) old new) where
     pub has-undone : committed ≡ false → HasUndone holding seat old new
-    has-undone not = let undone = so.undone not in record { pages = written_in (lines_of holding seat) pages; written = are-written; rest = so.rest; were = undone.were; are = undone.are }
+    has-undone not = let page_undone = so.undone not in record { pages = written_in (lines_of holding seat) pages; written = are-written; rest = so.rest; were = page_undone.were; are = page_undone.are }
 
     pub has-settled : committed ≡ true → HasSettled holding seat old new
     has-settled is = let settled = so.settled is in record { pages = written_in (lines_of holding seat) pages; written = are-written; rest = so.rest; were = settled.were; keeps = settled.keeps }
@@ -158,10 +158,10 @@ module _ (lines : ℕ → List ℕ) (pages : List ℕ) (at : ℕ) (before : at <
     written-same none same =
         subst (WrittenSo committed lines (written_in lines (take (at + 1) pages)) old) (sym same) (subst (λ (these : List ℕ). WrittenSo committed lines these old now) (no-more none) so)
 
-    module _ (some : (length writes == 0) ≡ false) (fits : Fits now.directory now.pool) (below : page < page_count old.directory) where
-      pub undone-step : committed ≡ false → next ≡ record now { pool = undone now.pool page writes } → WrittenSo committed lines (written_in lines (take (at + 1) pages)) old next
+    module _ (some : (length writes == 0) ≡ false) (fits : PoolFits now.directory now.pool) (below : page < page_count old.directory) where
+      pub undone-step : committed ≡ false → next ≡ record now { pool = page_undone now.pool page writes } → WrittenSo committed lines (written_in lines (take (at + 1) pages)) old next
       undone-step not went = subst (λ (these : List ℕ). WrittenSo committed lines these old next) (one-more some)
-          (written-undone lines old (written_in lines (take at pages)) now next page fits below so.rest not (went ∙ (λ i. record now { pool = undone now.pool page (is i) })) so)
+          (written-undone lines old (written_in lines (take at pages)) now next page fits below so.rest not (went ∙ (λ i. record now { pool = page_undone now.pool page (is i) })) so)
 
       pub settled-step : committed ≡ true → next ≡ record now { pool = settled now.pool page writes } → WrittenSo committed lines (written_in lines (take (at + 1) pages)) old next
       settled-step here went = subst (λ (these : List ℕ). WrittenSo committed lines these old next) (one-more some)

@@ -1,7 +1,7 @@
 -- What runs side by side, as `Activations` are seen, and the desk that it is over committed bytes.
 use Rattle.std.specs.Prelude.{[], refl, ℕ, zero, suc, false, List, length, map, replicate, slice_index_or, None, is_some}
 use Rattle.std.proofs.Common.{lit<, lit≤}
-use Rattle.activations.specs.Below.{Access, Authority, bytes_over, clear, Desk, Entry, first_registers, flat_lines, flat_map, Grant, grant_of, Lines, lines_of_access, lines_wanted, no_lines, of_page, of_seat, owners_told, PageSize, Plain, Pool, private_bytes, Program, range_with_len, Reach, Registers, Seating, sitter, unowned, write_count}
+use Rattle.activations.specs.Below.{Access, Authority, bytes_over, clear, Desk, Active, first_registers, flat_lines, flat_map, Grant, grant_of, Lines, lines_of_access, lines_wanted, no_lines, of_page, of_seat, owners_told, PageSize, Plain, Pool, private_bytes, Program, range_with_len, Reach, Registers, Seating, sitter, unowned, write_count}
 use Rattle.std.specs.Option.{option_map_or}
 use Rattle.lines.specs.FlatStore.{FlatStore}
 use Rattle.lines.specs.declared.line_geometry.PageSize.TheVariants.{Two}
@@ -43,7 +43,7 @@ abbrev pub live_in : Activity → ℕ → Live
 live_in a seat = slice_index_or a.live seat nothing_runs
 
 -- the entry of one who sits
-abbrev pub entry_for : List Program → Seat → Entry
+abbrev pub entry_for : List Program → Seat → Active
 entry_for programs who =
     record {
       number = who.number;
@@ -53,14 +53,14 @@ entry_for programs who =
     }
 
 -- the entry of who sits in a seat, and its program
-abbrev pub entry_in : Activity → ℕ → Entry
+abbrev pub entry_in : Activity → ℕ → Active
 entry_in a seat = entry_for a.programs (sitter a.seating seat)
 
 abbrev pub program_in : Activity → ℕ → Program
 program_in a seat = (entry_in a seat).runs.program
 
 -- the entries of the taken seats, in the order in which they began
-abbrev pub entries : Activity → List Entry
+abbrev pub entries : Activity → List Active
 entries a = map (entry_in a) a.seating.taken
 
 -- the number of who has an identifier: 0 is nobody's

@@ -1,6 +1,6 @@
 -- What a begin makes of those that run.
 use Rattle.std.specs.Prelude.{[], ◌≡◌, ℕ, ◌+◌, List, Option, Some, None, length, slice_set}
-use Rattle.activations.specs.Below.{absent_segment, begun, begun_told, byte_count, Desk, Fine, Header, Layout, made, most_lines, newcomer, next_seat, nobody_sits, opened, page_count, private_segment, Program, registers_of_program, seated, step}
+use Rattle.activations.specs.Below.{absent_segment, seat_begun, begun_told, byte_count, Desk, Fine, Header, Layout, made, most_lines, newcomer, next_seat, nobody_sits, opened, page_count, private_segment, Program, registers_of_program, seated, step}
 use Rattle.desk.specs.declared.answers.Begun.{Begun}
 use Rattle.desk.specs.declared.answers.Begun.TheVariants.{Started, Busy, NoSegment}
 use Rattle.desk.specs.declared.event.Event.TheVariants.{Begin}
@@ -25,8 +25,8 @@ pub record HasNobody (a : Activity) (programs : List Program) (header : Header) 
       → Begins a (opened frames 16 (most_lines header) (record { directory = header.directory; bytes = committed })) committed
 
 -- the next number is given, and all else stays
-abbrev pub given : Activity → Activity
-given a = record a { next = a.next + 1 }
+abbrev pub number_given : Activity → Activity
+number_given a = record a { next = a.next + 1 }
 
 -- what runs in a seat where a program has just begun with four values
 abbrev pub started : Activity → (program : ℕ) → (args : List ℕ) → (seat : ℕ) → Live
@@ -40,18 +40,18 @@ begun_in a program args seat =
       next = a.next + 1;
       seating = seated a.seating seat (newcomer a.next program args);
       live = slice_set a.live seat (started a program args seat);
-      reach = begun a.reach seat (program_at a.programs program).image;
+      reach = seat_begun a.reach seat (program_at a.programs program).image;
     }
 
 -- what a begin comes to, and what is left: it is busy where no seat is free, else the first segment of its windows that is
 -- absent refuses it, else the program has begun in the next seat
 abbrev pub begins_by : (free absent : Option ℕ) → Activity → (program : ℕ) → (args : List ℕ) → Begun × Activity
-begins_by None absent a program args = (Busy a.next, given a)
-begins_by (Some seat) (Some segment) a program args = (NoSegment a.next segment, given a)
+begins_by None absent a program args = (Busy a.next, number_given a)
+begins_by (Some seat) (Some segment) a program args = (NoSegment a.next segment, number_given a)
 begins_by (Some seat) None a program args = (Started a.next, begun_in a program args seat)
 
-abbrev pub begins : Activity → (program : ℕ) → (args : List ℕ) → Begun × Activity
-begins a program args = begins_by (next_seat a.seating) (absent_segment a.reach.directory (program_at a.programs program).windows) a program args
+abbrev pub begin_answer : Activity → (program : ℕ) → (args : List ℕ) → Begun × Activity
+begin_answer a program args = begins_by (next_seat a.seating) (absent_segment a.reach.directory (program_at a.programs program).windows) a program args
 
 -- a begin with this answer is the desk's, and what is left follows the desk after it
 pub record IsBegin (old new : Activity) (program : ℕ) (args : List ℕ) (answer : Begun) (committed : List ℕ) : Type 0 where
@@ -60,6 +60,6 @@ pub record IsBegin (old new : Activity) (program : ℕ) (args : List ℕ) (answe
 
 -- a begin came to this answer, left this, and is the desk's
 pub record BeginsSo (a : Activity) (program : ℕ) (args : List ℕ) (told : Begun) (now : Activity) : Type 0 where
-  pub answer : told ≡ (begins a program args).0
-  pub left : now ≡ (begins a program args).1
+  pub answer : told ≡ (begin_answer a program args).0
+  pub left : now ≡ (begin_answer a program args).1
   pub is_begin : OverDesk a (IsBegin a now program args told)

@@ -1,17 +1,17 @@
 -- What an attempt in a seat came to, what stays while those that run are served, and rows of what runs in a seat beside what it reaches.
 use Rattle.std.specs.Prelude.{[], ◌≡◌, ◌⊎◌, ℕ, ◌+◌, ◌<◌, ◌≤◌, List, ◌∷◌, ◌++◌, length, slice_set, true, slice_index_or, Option, Some, None}
-use Rattle.activations.specs.Below.{Access, byte_count, Check, Commit, Counts, Going, has, IsClean, IsShutOut, lines_wanted, number_in, On, Outcome, Plain, plain_over, private_bytes, Reach, reach_of, row, sitter, touched, turns, unowned, Want, Word}
+use Rattle.activations.specs.Below.{Access, byte_count, Check, Commit, Counts, Going, has, IsClean, IsShutOut, lines_wanted, number_in, On, Outcome, Plain, plain_over, private_bytes, Reach, reach_of, row, sitter, touched, turns, unowned, Want, DiskWord}
 use Rattle.romp_cpu.specs.declared.cpu.Attempt.{Attempt}
 use Rattle.romp_cpu.specs.declared.cpu.Cpu.{Cpu}
 use Rattle.romp_cpu.specs.Tried.{at}
 use Rattle.activations.specs.Activity.{Activity, live_in, program_in, desk_over}
-use Rattle.activations.specs.Follows.{KeepsDesk, IsSound}
+use Rattle.activations.specs.Follows.{KeepsDesk, IsActivitySound}
 use Rattle.activations.specs.Steps.{executed, counted, HasExecuted}
 use Rattle.storage_unit.specs.declared.unit.Unit.{Unit}
 use Rattle.activations.specs.declared.live.Live.{Live}
 
 -- the unit is what a seat reaches
-pub record IsSelected (a : Activity) (seat : ℕ) : Type 0 where
+pub record IsSeatSelected (a : Activity) (seat : ℕ) : Type 0 where
   pub runner : a.reach.runner ≡ seat + 1
   pub registers : a.reach.registers ≡ (live_in a seat).registers
 
@@ -31,7 +31,7 @@ CameTo outcome a seat after =
     (after ≡ a) × ((committed : List ℕ) → length committed ≡ byte_count a.reach.directory → row (program_in a seat) a.reach.directory (plain_in a seat committed) ≡ outcome)
 
 -- the next row goes on, but a line of its access isn't open
-pub record IsShut (a : Activity) (seat : ℕ) (access : Access) : Type 0 where
+pub record IsLineShut (a : Activity) (seat : ℕ) (access : Access) : Type 0 where
   pub some : 0 < access.bytes
   pub few : access.bytes ≤ 64
   pub shut : (committed : List ℕ) → length committed ≡ byte_count a.reach.directory → IsShutOut (program_in a seat) a.reach (plain_in a seat committed) access
@@ -42,8 +42,8 @@ pub record WillTouch (a : Activity) (seat : ℕ) (wants : List Want) : Type 0 wh
   pub touches : (committed : List ℕ) → length committed ≡ byte_count a.reach.directory → touched (program_in a seat) a.reach.directory (plain_in a seat committed) ≡ lines_wanted wants
 
 -- the next row is the commit call or a check
-abbrev pub IsStopped : Activity → (seat : ℕ) → Type 0
-IsStopped a seat =
+abbrev pub IsAtStop : Activity → (seat : ℕ) → Type 0
+IsAtStop a seat =
     (committed : List ℕ) → length committed ≡ byte_count a.reach.directory
     → (row (program_in a seat) a.reach.directory (plain_in a seat committed) ≡ Commit)
     ⊎ ((code : ℕ) × (row (program_in a seat) a.reach.directory (plain_in a seat committed) ≡ Check code))
@@ -55,7 +55,7 @@ WasAttempted (Attempt.Print byte) a seat after = TookEffect a seat after
 WasAttempted Attempt.Commit a seat after = CameTo Commit a seat after
 WasAttempted (Attempt.Check code) a seat after = CameTo (Check code) a seat after
 WasAttempted (Attempt.Fault fault access) a seat after =
-    (after ≡ a) × IsShut a seat access
+    (after ≡ a) × IsLineShut a seat access
 
 -- what is printed after an attempt
 abbrev pub printed_after : Attempt → List ℕ → List ℕ
@@ -72,7 +72,7 @@ attempted a seat attempt cpu new =
 pub record Strode (a : Activity) (seat rows : ℕ) (after : Activity) : Type 0 where
   pub seating : after.seating ≡ a.seating
   pub follows : (committed : List ℕ) (before : ℕ) → KeepsDesk (counted a seat before) committed → KeepsDesk (counted after seat (before + rows)) committed
-  pub turns : (word : Word) (committed : List ℕ) (order : List (ℕ × ℕ)) (before left : ℕ) (counts : Counts) → KeepsDesk (counted a seat before) committed
+  pub turns : (word : DiskWord) (committed : List ℕ) (order : List (ℕ × ℕ)) (before left : ℕ) (counts : Counts) → KeepsDesk (counted a seat before) committed
       → turns word (number_in a.seating seat) (rows + left) (Going (desk_over (counted a seat before) committed order) counts)
       ≡ turns word (number_in a.seating seat) left (Going (desk_over (counted after seat (before + rows)) committed order) (record counts { ran = counts.ran + rows }))
 
@@ -93,7 +93,7 @@ pub record KeepsParts (old new : Activity) (more : ℕ) : Type 0 where
 pub record StaysSeated (old new : Activity) (seat : ℕ) : Type 0 where
   pub taken : has new.seating.taken seat ≡ true
   pub number : number_in new.seating seat ≡ number_in old.seating seat
-  pub selected : IsSelected old seat → IsSelected new seat
+  pub selected : IsSeatSelected old seat → IsSeatSelected new seat
 
 -- and he stands where he stood: the same runs there, with the same private bytes, and each entry that was his is as it was
 pub record StandsStill (old new : Activity) (seat : ℕ) : Type 0 where
@@ -106,9 +106,9 @@ pub record StandsStill (old new : Activity) (seat : ℕ) : Type 0 where
 
 -- this runs in a seat that is selected, and reaches this
 pub record RunsAt (a : Activity) (seat : ℕ) (reach : Reach) (live : Live) : Type 0 where
-  pub sound : IsSound a
+  pub sound : IsActivitySound a
   pub taken : has a.seating.taken seat ≡ true
-  pub selected : IsSelected a seat
+  pub selected : IsSeatSelected a seat
   pub reached : a.reach ≡ reach
   pub runs : live_in a seat ≡ live
 
@@ -122,7 +122,7 @@ RunsSomewhere reach live = (a : Activity) × (seat : ℕ) × RunsAt a seat reach
 
 -- an attempt of what runs in a seat came to this, whoever else sits, and all is sound then
 pub record HasTried (attempt : Attempt) (reach : Reach) (live : Live) (new_reach : Reach) (new : Live) : Type 0 where
-  pub sound : (a : Activity) (seat : ℕ) → RunsAt a seat reach live → IsSound (with_live a seat new new_reach)
+  pub sound : (a : Activity) (seat : ℕ) → RunsAt a seat reach live → IsActivitySound (with_live a seat new new_reach)
   pub went : (a : Activity) (seat : ℕ) → RunsAt a seat reach live → WasAttempted attempt a seat (with_live a seat new new_reach)
 
 -- so many rows came to this
@@ -139,8 +139,8 @@ standing live iar = record live { cpu = at live.cpu iar }
 pub record HasStrode (result : ℕ × Option Access) (limit : ℕ) (reach : Reach) (live : Live) (new_reach : Reach) (new : Live) : Type 0 where
   pub few : result.0 ≤ limit
   pub strode : (a : Activity) (seat : ℕ) → RunsAt a seat reach live → StrodeTo a seat result.0 new new_reach
-  pub stopped : result.1 ≡ None → result.0 < limit → (a : Activity) (seat : ℕ) → RunsAt a seat reach live → IsStopped (with_live a seat new new_reach) seat
-  pub shut : (access : Access) → result.1 ≡ Some access → (a : Activity) (seat : ℕ) → RunsAt a seat reach live → IsShut (with_live a seat new new_reach) seat access
+  pub stopped : result.1 ≡ None → result.0 < limit → (a : Activity) (seat : ℕ) → RunsAt a seat reach live → IsAtStop (with_live a seat new new_reach) seat
+  pub shut : (access : Access) → result.1 ≡ Some access → (a : Activity) (seat : ℕ) → RunsAt a seat reach live → IsLineShut (with_live a seat new new_reach) seat access
 
 -- the same of what runs in a seat from an address that is kept beside it: an attempt came to this
 abbrev pub TriesFrom : Attempt → (unit : Unit) → Live → (iar : ℕ) → (new : Unit) → Live → (iar : ℕ) → Type 0

@@ -1,44 +1,44 @@
 -- An instruction that is served, from where it began, step by step.
 use Rattle.std.specs.Prelude.{[], ◌≡◌, ℕ, ◌+◌, ◌==◌, ◌&&◌, not, if◌then◌else◌, Bool, length, Some, List, ◌∷◌, filter, map, slice_index_or, slice_set, ◌≢◌, nat_lt, true, false, ◌++◌, All}
-use Rattle.activations.specs.Below.{AreAlike, AreOfPage, Attempt, Authority, Broken, conflicts_of, contest_ends, Counts, Desk, difference, Disk, Ending, Fetched, fetches, Fine, fine_grant_by, gets, Going, Grant, grant_by, grant_of, has, held_at, holders, instruction, is_fine_page, is_whole_page, Journal, Keeps, lines_wanted, lines_within, locks_with, lowered, nobody, of_page, On, Over, over_all, owners_told, Plain, Pool, Reads, refuses, Request, rolled_back, row, sitter, size, took, touched, touched_pages, Turning, waiting_for, Want, with_grants, Word, write_count}
-use Rattle.activations.specs.Touched.{with_whole_page, stores_into, pages_picked, pages_wanted, IsApart, pages_refused, wants_of}
-use Rattle.desk_law.specs.UnderWay.{KeepsPages, contest, IsUnderWay, IsReady, marked, served_attempt}
+use Rattle.activations.specs.Below.{AreAlike, AreOfPage, InFlight, Authority, Broken, conflicts_of, contest_ends, Counts, Desk, difference, Disk, Ending, Fetched, fetches, Fine, fine_grant_by, gets, Going, Grant, grant_by, grant_of, has, held_at, holders, instruction, is_fine_page, is_whole_page, Journal, PoolKeeps, lines_wanted, lines_within, locks_with, lowered, nobody, of_page, On, Over, over_all, owners_told, Plain, Pool, Reads, refuses, Request, rolled_back, row, sitter, size, took, touched, touched_pages, Turning, waiting_for, Want, with_grants, DiskWord, write_count}
+use Rattle.activations.specs.Touched.{with_whole_page, stores_into, pages_picked, pages_wanted, IsWantApart, pages_refused, wants_of}
+use Rattle.desk_law.specs.UnderWay.{KeepsPages, contest, IsUnderWay, MayGoOn, marked_waiting, served_attempt}
 use Rattle.activations.specs.Activity.{Activity, entry_in, desk_over, program_in, number_under, authority_under, lines_held, locks_in, state_in, shown}
-use Rattle.activations.specs.Follows.{IsKept, KeepsDesk, AreOfPages, IsSound}
+use Rattle.activations.specs.Follows.{IsBeside, KeepsDesk, AreHeldOfPages, IsActivitySound}
 use Rattle.activations.specs.declared.live.Live.{Live}
-use Rattle.activations.specs.declared.touch.Touch.{Touch}
+use Rattle.activations.specs.declared.touched_lines.TouchedLines.{TouchedLines}
 use Rattle.activations.specs.Kept.{plain_in}
-use Rattle.activations.specs.Steps.{counted, executed, with_pool, rolled, IsMoved, RollsBack, HasExecuted}
+use Rattle.activations.specs.Steps.{counted, executed, with_other_pool, rolled, IsPoolMoved, RollsBack, HasExecuted}
 
 -- These are the pages of an attempt whose authority refused it once, and of those that it owned then the authority is as it was.
-pub record WereRefused (attempt : Attempt) (refused : List ℕ) (now : Desk) : Type 0 where
+pub record WereRefused (attempt : InFlight) (refused : List ℕ) (now : Desk) : Type 0 where
   pub once : List Grant
   pub are : filter (λ page. refuses (slice_index_or once page nobody) attempt.entry.number (lines_within page attempt.lines)) (touched_pages attempt) ≡ refused
   pub keeps : KeepsPages attempt.entry.number once now.authority
 
 -- An instruction is contested: wherever it began, the contest goes on from here.
-pub record IsContested (begins : Word → Turning) (attempt : Attempt) (refused : List ℕ) (first : Desk) (a : Activity) (committed : List ℕ) (order : List (ℕ × ℕ)) (counts : Counts) : Type 0 where
-  pub comes : (word : Word) → Reads word counts.pages → begins word ≡ contest_ends word attempt refused (contest attempt.entry.number (desk_over a committed order) counts)
-  pub ready : IsReady attempt first
-  pub under_way : IsUnderWay first (desk_over a committed order) (marked attempt)
+pub record IsContested (begins : DiskWord → Turning) (attempt : InFlight) (refused : List ℕ) (first : Desk) (a : Activity) (committed : List ℕ) (order : List (ℕ × ℕ)) (counts : Counts) : Type 0 where
+  pub comes : (word : DiskWord) → Reads word counts.pages → begins word ≡ contest_ends word attempt refused (contest attempt.entry.number (desk_over a committed order) counts)
+  pub ready : MayGoOn attempt first
+  pub under_way : IsUnderWay first (desk_over a committed order) (marked_waiting attempt)
   pub were : WereRefused attempt refused first
-  pub kept : IsKept a committed
+  pub kept : IsBeside a committed
 
 -- it came to its end: this desk, these counts and this ending
-pub record ComesToEnd (begins : Word → Turning) (a : Activity) (committed : List ℕ) (order : List (ℕ × ℕ)) (counts : Counts) (ending : Ending) : Type 0 where
-  pub comes : (word : Word) → Reads word counts.pages → begins word ≡ Over (desk_over a committed order) counts ending
+pub record ComesToEnd (begins : DiskWord → Turning) (a : Activity) (committed : List ℕ) (order : List (ℕ × ℕ)) (counts : Counts) (ending : Ending) : Type 0 where
+  pub comes : (word : DiskWord) → Reads word counts.pages → begins word ≡ Over (desk_over a committed order) counts ending
   pub follows : KeepsDesk a committed
 
 -- nobody holds any more what it asks for: it gets its pages
-pub record IsFree (begins : Word → Turning) (attempt : Attempt) (refused : List ℕ) (a : Activity) (committed : List ℕ) (order : List (ℕ × ℕ)) (counts : Counts) : Type 0 where
-  pub comes : (word : Word) → Reads word counts.pages → begins word ≡ gets word attempt refused (desk_over a committed order) counts
+pub record IsFree (begins : DiskWord → Turning) (attempt : InFlight) (refused : List ℕ) (a : Activity) (committed : List ℕ) (order : List (ℕ × ℕ)) (counts : Counts) : Type 0 where
+  pub comes : (word : DiskWord) → Reads word counts.pages → begins word ≡ gets word attempt refused (desk_over a committed order) counts
   pub free : conflicts_of (desk_over a committed order) attempt.entry ≡ []
-  pub ready : IsReady attempt (desk_over a committed order)
+  pub ready : MayGoOn attempt (desk_over a committed order)
   pub were : WereRefused attempt refused (desk_over a committed order)
   pub follows : KeepsDesk a committed
 
 -- the next instruction of who sits in a seat, with what the turn has counted
-abbrev pub instruction_in : Activity → (seat : ℕ) → (committed : List ℕ) → (order : List (ℕ × ℕ)) → Counts → Word → Turning
+abbrev pub instruction_in : Activity → (seat : ℕ) → (committed : List ℕ) → (order : List (ℕ × ℕ)) → Counts → DiskWord → Turning
 instruction_in a seat committed order counts word = instruction word (Some (entry_in a seat)) (desk_over a committed order) counts
 
 -- Pages get entries one after another, each with the authority that is told of it.
@@ -81,7 +81,7 @@ abbrev pub Lowers : (seat : ℕ) → List Want → (old new : Activity) → Type
 Lowers seat wants old new = AreLowered old seat (pages_lowered old seat wants) old.reach.entries new.reach.entries
 
 -- the pages of a touch that are picked are granted, by what is held in a seat here
-abbrev pub GrantsPicked : Activity → (seat : ℕ) → Touch → (picked : Bool × Bool) → (old new : Activity) → Type 0
+abbrev pub GrantsPicked : Activity → (seat : ℕ) → TouchedLines → (picked : Bool × Bool) → (old new : Activity) → Type 0
 GrantsPicked a seat touch picked old new = AreGranted a seat (wants_of touch) (pages_picked touch picked) old.reach.entries new.reach.entries
 
 -- the entries of the pages are others
@@ -93,8 +93,8 @@ abbrev pub locked : Activity → (seat : ℕ) → List Want → (entries : List 
 locked a seat wants entries = record a { seating = took a.seating seat (map (with_whole_page a.reach.directory) wants); reach = record a.reach { entries = entries } }
 
 -- a row that was served takes effect
-pub record Goes (begins : Word → Turning) (a : Activity) (committed : List ℕ) (order : List (ℕ × ℕ)) (counts : Counts) : Type 0 where
-  pub comes : (word : Word) → Reads word counts.pages → begins word ≡ Going (desk_over a committed order) counts
+pub record Goes (begins : DiskWord → Turning) (a : Activity) (committed : List ℕ) (order : List (ℕ × ℕ)) (counts : Counts) : Type 0 where
+  pub comes : (word : DiskWord) → Reads word counts.pages → begins word ≡ Going (desk_over a committed order) counts
   pub follows : KeepsDesk a committed
 
 -- who sits in a seat waits for what he asked for
@@ -103,7 +103,7 @@ asking a seat request = record a { seating = waiting_for a.seating seat request 
 
 -- The next row of who sits in a seat goes on and touches these lines; its access is to be served.
 pub record IsToServe (a : Activity) (seat : ℕ) (committed : List ℕ) (wants : List Want) (next : Plain) : Type 0 where
-  pub sound : IsSound a
+  pub sound : IsActivitySound a
   pub taken : has a.seating.taken seat ≡ true
   pub runner : a.reach.runner ≡ seat + 1
   pub follows : KeepsDesk a committed
@@ -111,7 +111,7 @@ pub record IsToServe (a : Activity) (seat : ℕ) (committed : List ℕ) (wants :
   pub touches : touched (program_in a seat) a.reach.directory (plain_in a seat committed) ≡ lines_wanted wants
 
 -- the instruction under way in a seat, over the bytes that all see
-abbrev pub attempt_in : (a : Activity) (seat : ℕ) (committed : List ℕ) (order : List (ℕ × ℕ)) (wants : List Want) (next : Plain) → IsToServe a seat committed wants next → Attempt
+abbrev pub attempt_in : (a : Activity) (seat : ℕ) (committed : List ℕ) (order : List (ℕ × ℕ)) (wants : List Want) (next : Plain) → IsToServe a seat committed wants next → InFlight
 attempt_in a seat committed order wants next to =
     served_attempt (desk_over a committed order) (entry_in a seat) (over_all (state_in a seat) (to.follows.kept.stand seat to.taken).bytes) (shown a committed)
 
@@ -121,14 +121,14 @@ lines_with a seat wants = size ((locks_in a seat).writes ++ (lines_wanted wants)
 
 -- Pages came in from here, and of what all see nothing changed: the pool is this one, and so many pages are counted.
 pub record IsFetched (a : Activity) (committed : List ℕ) (order : List (ℕ × ℕ)) (pages : List ℕ) (before : ℕ) (pool : Pool) (after : ℕ) : Type 0 where
-  pub moved : IsMoved a.reach.pool pool
-  pub keeps : Keeps a.reach.directory a.reach.pool pool committed
+  pub moved : IsPoolMoved a.reach.pool pool
+  pub keeps : PoolKeeps a.reach.directory a.reach.pool pool committed
   pub fetched : fetches Fine (desk_over a committed order).frames pages pages (desk_over a committed order).resident before ≡ Fetched pool.resident after
 
 -- what is wanted of each page is of it, and the pages are those that are touched
-pub record AreTouched (attempt : Attempt) (wants : List Want) : Type 0 where
+pub record AreTouched (attempt : InFlight) (wants : List Want) : Type 0 where
   pub pages : touched_pages attempt ≡ pages_wanted wants
-  pub apart : All (IsApart wants) wants
+  pub apart : All (IsWantApart wants) wants
   pub sets : AreOfPage wants
 
 -- the pages came in and the refused ones are counted
@@ -140,18 +140,18 @@ counted_with counts pages refused = record counts { pages = pages; locks = count
 pub record Starts (a : Activity) (seat : ℕ) (committed : List ℕ) (order : List (ℕ × ℕ)) (counts : Counts) (wants : List Want) (next : Plain) (to : IsToServe a seat committed wants next) : Type 0 where
   pub journal : (pool : Pool) → RollsBack a seat pool committed → nat_lt a.most_lines (lines_with a seat wants) ≡ true
       → ComesToEnd (instruction_in a seat committed order counts) (rolled a seat pool) committed order counts (Journal (lines_with a seat wants) a.most_lines)
-  pub breaks : nat_lt a.most_lines (lines_with a seat wants) ≡ false → (word : Word) (pages : ℕ)
+  pub breaks : nat_lt a.most_lines (lines_with a seat wants) ≡ false → (word : DiskWord) (pages : ℕ)
       → fetches word (desk_over a committed order).frames (touched_pages (attempt_in a seat committed order wants next to)) (touched_pages (attempt_in a seat committed order wants next to)) (desk_over a committed order).resident counts.pages ≡ Broken pages
       → instruction_in a seat committed order counts word ≡ Over (record (rolled_back (desk_over a committed order) (entry_in a seat)) { resident = [] }) (record counts { pages = pages }) Disk
   pub free : nat_lt a.most_lines (lines_with a seat wants) ≡ false → (pool : Pool) (pages : ℕ) → IsFetched a committed order (touched_pages (attempt_in a seat committed order wants next to)) counts.pages pool pages
       → AreTouched (attempt_in a seat committed order wants next to) wants → holders a.seating seat (map (with_whole_page a.reach.directory) wants) ≡ []
-      → IsFree (instruction_in a seat committed order counts) (attempt_in a seat committed order wants next to) (pages_refused a.reach.entries (seat + 1) wants) (with_pool a pool) committed order
+      → IsFree (instruction_in a seat committed order counts) (attempt_in a seat committed order wants next to) (pages_refused a.reach.entries (seat + 1) wants) (with_other_pool a pool) committed order
       (counted_with counts pages (pages_refused a.reach.entries (seat + 1) wants))
   pub contested : nat_lt a.most_lines (lines_with a seat wants) ≡ false → (pool : Pool) (pages : ℕ) → IsFetched a committed order (touched_pages (attempt_in a seat committed order wants next to)) counts.pages pool pages
       → AreTouched (attempt_in a seat committed order wants next to) wants → (request : Request) → request.wants.items ≡ map (with_whole_page a.reach.directory) wants → (holder : ℕ) (others : List ℕ)
       → holders a.seating seat (map (with_whole_page a.reach.directory) wants) ≡ holder ∷ others
-      → IsContested (instruction_in a seat committed order counts) (attempt_in a seat committed order wants next to) (pages_refused a.reach.entries (seat + 1) wants) (desk_over (with_pool a pool) committed order)
-      (asking (with_pool a pool) seat request) committed order (counted_with counts pages (pages_refused a.reach.entries (seat + 1) wants))
+      → IsContested (instruction_in a seat committed order counts) (attempt_in a seat committed order wants next to) (pages_refused a.reach.entries (seat + 1) wants) (desk_over (with_other_pool a pool) committed order)
+      (asking (with_other_pool a pool) seat request) committed order (counted_with counts pages (pages_refused a.reach.entries (seat + 1) wants))
 
 -- the law of it
 abbrev pub ServingStarts : Type 0
@@ -163,15 +163,15 @@ ServingStarts =
 -- that it wrote into: that is the desk's instruction, wherever it began.
 abbrev pub ServedGoesOn : Type 0
 ServedGoesOn =
-    (begins : Word → Turning) (attempt : Attempt) (refused : List ℕ) (a : Activity) (seat : ℕ) (committed : List ℕ) (order : List (ℕ × ℕ)) (counts : Counts)
-    (wants : List Want) (owned eased : List Authority) (pool : Pool) (live : Live) (bytes : List ℕ) (marked : List (List ℕ)) (pages : ℕ) (next : Plain)
-    → IsSound a → has a.seating.taken seat ≡ true → a.reach.runner ≡ seat + 1 → attempt.entry.number ≡ (sitter a.seating seat).number
+    (begins : DiskWord → Turning) (attempt : InFlight) (refused : List ℕ) (a : Activity) (seat : ℕ) (committed : List ℕ) (order : List (ℕ × ℕ)) (counts : Counts)
+    (wants : List Want) (owned eased : List Authority) (pool : Pool) (live : Live) (bytes : List ℕ) (marked_waiting : List (List ℕ)) (pages : ℕ) (next : Plain)
+    → IsActivitySound a → has a.seating.taken seat ≡ true → a.reach.runner ≡ seat + 1 → attempt.entry.number ≡ (sitter a.seating seat).number
     → IsFree begins attempt refused a committed order counts → attempt.outcome ≡ On next → IsFetched a committed order (touched_pages attempt) counts.pages pool pages
     → AreAlike (locks_in (locked a seat wants owned) seat) (locks_with attempt (desk_over a committed order))
     → owners_told (number_under a) (authority_under eased)
     ≡ lowered (is_fine_page a.reach.directory) attempt (locks_with attempt (desk_over a committed order)) (with_grants attempt refused (desk_over a committed order)).authority
-    → HasExecuted (with_pool (locked a seat wants owned) pool) seat live bytes marked committed
-    → Goes begins (counted (with_entries (executed (with_pool (locked a seat wants owned) pool) seat live bytes marked) eased) seat 1) committed order (record counts { pages = pages; ran = counts.ran + 1 })
+    → HasExecuted (with_other_pool (locked a seat wants owned) pool) seat live bytes marked_waiting committed
+    → Goes begins (counted (with_entries (executed (with_other_pool (locked a seat wants owned) pool) seat live bytes marked_waiting) eased) seat 1) committed order (record counts { pages = pages; ran = counts.ran + 1 })
 
 -- With the lines of no want, of one, and of two of different pages, as many lines are written as are counted page by page.
 pub record AreCounted (pages : List (List ℕ × List ℕ)) : Type 0 where
@@ -183,4 +183,4 @@ pub record AreCounted (pages : List (List ℕ × List ℕ)) : Type 0 where
 
 -- so the lines that a row would have written are counted from what is held of its pages
 abbrev pub LinesAreCounted : Type 0
-LinesAreCounted = (pages : List (List ℕ × List ℕ)) → AreOfPages pages → AreCounted pages
+LinesAreCounted = (pages : List (List ℕ × List ℕ)) → AreHeldOfPages pages → AreCounted pages

@@ -1,30 +1,30 @@
 -- Pages that come in from the store on the disk; what the stages of a turn ask for, what each leaves, and why a turn ended before its commit call.
 use Rattle.std.specs.Prelude.{[], ◌≡◌, ℕ, ◌+◌, ◌<◌, if◌then◌else◌, true, false, List, Option, Some, option_to_list, ◌≤◌, ◌++◌, ◌∷◌, length, Result, Ok, Err, IfErr, OnErr, OnOk, Bool, nat_lt}
-use Rattle.activations.specs.Below.{array_vec_len, Attempt, Broken, brought, Check, Counts, fetches, Ghosts, has, held_of, holders, HoldsAtLeast, IsClean, Keeps, KeptStore, Layout, lines_wanted, number_in, On, OnlyAsks, Plain, Pool, Reach, ReadFailed, Request, Rose, row, sitter, Stands, stands, total, TracksStore, TurnEnd, Turning, victim_of, Want, Word}
+use Rattle.activations.specs.Below.{array_vec_len, InFlight, Broken, brought, Check, Counts, fetches, Ghosts, has, held_of, holders, HoldsAtLeast, IsClean, PoolKeeps, StoreView, Layout, lines_wanted, number_in, On, OnlyAsks, Plain, Pool, Reach, ReadFailed, Request, Rose, row, sitter, Stands, stands, total, TracksStore, TurnEnd, Turning, victim_of, Want, DiskWord}
 use Rattle.activations.specs.Activity.{Activity, desk_over, program_in}
-use Rattle.activations.specs.Steps.{HasUndone, IsMoved, IsRolledBack, with_pool, rolled, counted}
+use Rattle.activations.specs.Steps.{HasUndone, IsPoolMoved, IsRolledBack, with_other_pool, rolled, counted}
 use Rattle.desk.specs.declared.answers.Cycle.{Cycle}
 use Rattle.activations.specs.declared.tally.Tally.{Tally}
-use Rattle.activations.specs.Kept.{IsSelected, plain_in, KeepsParts, StandsStill, StaysSeated, WillTouch}
+use Rattle.activations.specs.Kept.{IsSeatSelected, plain_in, KeepsParts, StandsStill, StaysSeated, WillTouch}
 use Rattle.activations.specs.Follows.{KeepsDesk}
-use Rattle.activations.specs.Turning.{TalliesMore, IsEndOfRows, IfWaits, IsAsked, Serves, IsContestEnd, IsSettled, HasEnded, tally_counts, AreTurns, ComesBack, IsTurning, turn_in, IsServed, GoesUncounted}
+use Rattle.activations.specs.Turning.{TalliesMore, IsEndOfRows, IfWaits, IsWanted, Serves, IsContestEnd, IsSettled, HasEnded, tally_counts, AreTurns, ComesBack, IsTurning, turn_in, IsServed, GoesUncounted}
 use Rattle.activations.specs.Serving.{IsFetched, IsToServe, IsFree, instruction_in, lines_with}
 use Rattle.activations.specs.Touched.{AreLetBut, AreWanted, pages_picked, pages_wanted, wants_of}
-use Rattle.activations.specs.declared.touch.Touch.{Touch}
+use Rattle.activations.specs.declared.touched_lines.TouchedLines.{TouchedLines}
 use Rattle.desk.specs.declared.answers.TurnEnd.TheVariants as end
 
 -- these bytes are committed in a store that is open
-pub record IsStoreOf {W : Type 0} (G : Ghosts W) (store : KeptStore) (outside : W) (committed : List ℕ) : Type 0 where
+pub record IsStoreOf {W : Type 0} (G : Ghosts W) (store : StoreView) (outside : W) (committed : List ℕ) : Type 0 where
   pub tracks : TracksStore G store outside
   pub number : ℕ
   pub stood : stands (held_of G outside) ≡ Stands number (record { directory = store.header.directory; bytes = committed })
 
 -- over whatever is committed in the store, of what all see through a pool nothing changed
-abbrev pub KeepsPool : {W : Type 0} → Ghosts W → KeptStore → W → Layout → (old new : Pool) → Type 0
-KeepsPool G store outside directory old new = (committed : List ℕ) → IsStoreOf G store outside committed → IsClean directory old committed → Keeps directory old new committed
+abbrev pub KeepsPool : {W : Type 0} → Ghosts W → StoreView → W → Layout → (old new : Pool) → Type 0
+KeepsPool G store outside directory old new = (committed : List ℕ) → IsStoreOf G store outside committed → IsClean directory old committed → PoolKeeps directory old new committed
 
 -- nor through the pool of a unit
-abbrev pub KeepsStore : {W : Type 0} → Ghosts W → KeptStore → W → (old new : Reach) → Type 0
+abbrev pub KeepsStore : {W : Type 0} → Ghosts W → StoreView → W → (old new : Reach) → Type 0
 KeepsStore G store outside old new = KeepsPool G store outside old.directory old.pool new.pool
 
 -- a page has come in, and another that is to stay wasn't what went out for it
@@ -50,18 +50,18 @@ pub record ComesIn {T E : Type 0} (result : Result T E) (old new : Activity) (pa
 
 -- The page that was counted last couldn't be read: all pages went out, and of what all see nothing changed.
 pub record IsBrokenOff (a : Activity) (committed : List ℕ) (order : List (ℕ × ℕ)) (pages : List ℕ) (before : ℕ) (pool : Pool) (after : ℕ) : Type 0 where
-  pub moved : IsMoved a.reach.pool pool
-  pub keeps : Keeps a.reach.directory a.reach.pool pool committed
+  pub moved : IsPoolMoved a.reach.pool pool
+  pub keeps : PoolKeeps a.reach.directory a.reach.pool pool committed
   pub none : pool.resident ≡ []
   pub counted : before < after
   pub broken : fetches (ReadFailed after) (desk_over a committed order).frames pages pages (desk_over a committed order).resident before ≡ Broken after
 
 -- Over whatever is committed in the store, a page couldn't be read, and then who sits in a seat was rolled back.
-pub record HasBrokenOff {W : Type 0} (G : Ghosts W) (store : KeptStore) (outside : W) (old : Activity) (seat : ℕ) (pages : List ℕ) (before : ℕ) (new : Activity) (after : ℕ) : Type 0 where
+pub record HasBrokenOff {W : Type 0} (G : Ghosts W) (store : StoreView) (outside : W) (old : Activity) (seat : ℕ) (pages : List ℕ) (before : ℕ) (new : Activity) (after : ℕ) : Type 0 where
   pub pool : Pool
-  pub shape : new ≡ rolled (with_pool old pool) seat new.reach.pool
-  pub undone : HasUndone old.seating.holding seat (with_pool old pool).reach (record old.reach { pool = new.reach.pool })
-  pub rolls : IsRolledBack (with_pool old pool) seat new.reach.pool
+  pub shape : new ≡ rolled (with_other_pool old pool) seat new.reach.pool
+  pub undone : HasUndone old.seating.holding seat (with_other_pool old pool).reach (record old.reach { pool = new.reach.pool })
+  pub rolls : IsRolledBack (with_other_pool old pool) seat new.reach.pool
   pub off : (committed : List ℕ) (order : List (ℕ × ℕ)) → IsStoreOf G store outside committed → IsClean old.reach.directory old.reach.pool committed → IsBrokenOff old committed order pages before pool after
 
 -- a code of a program check
@@ -103,25 +103,25 @@ IfVictim number cycles end.Victim = (earlier : List Cycle) × (last : Cycle) × 
 IfVictim number cycles _ = Unit {0}
 
 -- pages may be fetched from this store, which has this directory
-pub record CanFetch {W : Type 0} (G : Ghosts W) (layout : Layout) (store : KeptStore) (outside : W) : Type 0 where
+pub record CanFetch {W : Type 0} (G : Ghosts W) (layout : Layout) (store : StoreView) (outside : W) : Type 0 where
   pub directory : store.header.directory ≡ layout
   pub usable : store.bank.spoiled ≡ false
   pub room : HoldsAtLeast G (total store.header) outside
 
 -- and who sits in a seat, which is selected, may be served from it
-pub record CanServe {W : Type 0} (G : Ghosts W) (a : Activity) (seat : ℕ) (store : KeptStore) (outside : W) : Type 0 where
+pub record CanServe {W : Type 0} (G : Ghosts W) (a : Activity) (seat : ℕ) (store : StoreView) (outside : W) : Type 0 where
   pub fetch : CanFetch G a.reach.directory store outside
   pub taken : has a.seating.taken seat ≡ true
-  pub selected : IsSelected a seat
+  pub selected : IsSeatSelected a seat
 
 -- what who sits in a seat touches next is known, and none but these pages' entries refuse him of it
-pub record MayGet (a : Activity) (seat : ℕ) (touch : Touch) (picked : Bool × Bool) : Type 0 where
+pub record MayGet (a : Activity) (seat : ℕ) (touch : TouchedLines) (picked : Bool × Bool) : Type 0 where
   pub wanted : AreWanted a.reach.directory (wants_of touch)
   pub touches : WillTouch a seat (wants_of touch)
   pub refused : AreLetBut a.reach.entries (seat + 1) (pages_picked touch picked) (wants_of touch)
 
 -- what was counted has room for one instruction more
-pub record HasRoom (a : Activity) (tally : Tally) : Type 0 where
+pub record TallyHasRoom (a : Activity) (tally : Tally) : Type 0 where
   pub cycles : array_vec_len tally.cycles + length a.seating.taken ≤ 16
   pub pages : tally.pages < 6000000
   pub locks : tally.locks < 2000000
@@ -164,19 +164,19 @@ pub record CountsRefused (old new : Tally) : Type 0 where
   pub locks : new.locks ≤ old.locks + 2
 
 -- pages have come in, and over whatever is committed in the store, of what all see nothing changed
-pub record HasFetched {W : Type 0} (G : Ghosts W) (store : KeptStore) (outside : W) (a : Activity) (pages : List ℕ) (before : ℕ) (pool : Pool) (after : ℕ) : Type 0 where
-  pub moved : IsMoved a.reach.pool pool
+pub record HasFetched {W : Type 0} (G : Ghosts W) (store : StoreView) (outside : W) (a : Activity) (pages : List ℕ) (before : ℕ) (pool : Pool) (after : ℕ) : Type 0 where
+  pub moved : IsPoolMoved a.reach.pool pool
   pub resident : (page : ℕ) → has pages page ≡ true → has pool.resident page ≡ true
   pub fetched : (committed : List ℕ) (order : List (ℕ × ℕ)) → IsStoreOf G store outside committed → IsClean a.reach.directory a.reach.pool committed → IsFetched a committed order pages before pool after
 
 -- that, or it broke off at the page that was counted last
-abbrev pub Fetches : {T E W : Type 0} → Result T E → Ghosts W → KeptStore → (outside : W) → Activity → (pages : List ℕ) → (before : ℕ) → Pool → (after : ℕ) → Type 0
+abbrev pub Fetches : {T E W : Type 0} → Result T E → Ghosts W → StoreView → (outside : W) → Activity → (pages : List ℕ) → (before : ℕ) → Pool → (after : ℕ) → Type 0
 Fetches (Ok it) G store outside a pages before pool after = HasFetched G store outside a pages before pool after
 Fetches (Err failed) G store outside a pages before pool after =
     (committed : List ℕ) (order : List (ℕ × ℕ)) → IsStoreOf G store outside committed → IsClean a.reach.directory a.reach.pool committed → IsBrokenOff a committed order pages before pool after
 
 -- the pages of what is wanted have come in, or one couldn't be read and who sits in a seat was rolled back
-pub record BringsIn {T W : Type 0} (G : Ghosts W) (store : KeptStore) (outside : W) (seat : ℕ) (wants : List Want)
+pub record PagesComeIn {T W : Type 0} (G : Ghosts W) (store : StoreView) (outside : W) (seat : ℕ) (wants : List Want)
     (old new : Activity) (before after : Tally) (result : Result T TurnEnd) : Type 0 where
   pub fetched : OnOk result (HasFetched G store outside old (pages_wanted wants) before.pages new.reach.pool after.pages)
   pub broke : IfErr result (λ over. HasBrokenOff G store outside old seat (pages_wanted wants) before.pages new after.pages)
@@ -199,8 +199,8 @@ pub record EndsContest (number : ℕ) (counts : Tally) (how : TurnEnd) : Type 0 
 -- what is asked for in a seat is settled so
 abbrev pub SettlesAsked : {U : Type 0} → (seat : ℕ) → List Want → (old new : Activity) → (before after : Tally) → Result U TurnEnd → Type 0
 SettlesAsked seat wants old new before after result =
-    (begins : Word → Turning) (attempt : Attempt) (refused : List ℕ) (committed : List ℕ) (order : List (ℕ × ℕ))
-    → IsAsked begins attempt refused old seat wants committed order (tally_counts before) → IsSettled result begins attempt refused new committed order (tally_counts after)
+    (begins : DiskWord → Turning) (attempt : InFlight) (refused : List ℕ) (committed : List ℕ) (order : List (ℕ × ℕ))
+    → IsWanted begins attempt refused old seat wants committed order (tally_counts before) → IsSettled result begins attempt refused new committed order (tally_counts after)
 
 -- What who sits in a seat asks for is disputed: cycles alone are counted, he stands as he stood or it ended his turn, and it is settled so.
 pub record Disputes {U : Type 0} (settles : (old new : Activity) → (before after : Tally) → Result U TurnEnd → Type 0)
@@ -216,16 +216,16 @@ abbrev pub AreAwaited : Activity → (seat : ℕ) → List ℕ → Type 0
 AreAwaited a seat numbers = (request : Request) → (sitter a.seating seat).waits ≡ Some request → numbers ≡ holders a.seating seat request.wants.items
 
 -- what is got in a seat, once nobody holds it, is served so
-abbrev pub ServesFree : {U W : Type 0} → Ghosts W → KeptStore → W → (seat : ℕ) → List Want → (refused : List ℕ) → (old new : Activity) → (before after : Tally) → Result U TurnEnd → Type 0
+abbrev pub ServesFree : {U W : Type 0} → Ghosts W → StoreView → W → (seat : ℕ) → List Want → (refused : List ℕ) → (old new : Activity) → (before after : Tally) → Result U TurnEnd → Type 0
 ServesFree G store outside seat wants refused old new before after result =
-    (begins : Word → Turning) (attempt : Attempt) (next : Plain) (committed : List ℕ) (order : List (ℕ × ℕ)) → IsStoreOf G store outside committed
+    (begins : DiskWord → Turning) (attempt : InFlight) (next : Plain) (committed : List ℕ) (order : List (ℕ × ℕ)) → IsStoreOf G store outside committed
     → attempt.entry.number ≡ number_in old.seating seat → attempt.outcome ≡ On next → attempt.lines ≡ lines_wanted wants
     → IsFree begins attempt refused old committed order (tally_counts before) → Serves result begins new seat wants committed order (tally_counts after)
 
 -- a check of who sits in a seat ends his turn so
 abbrev pub EndsChecked : (seat code : ℕ) → (old new : Activity) → TurnEnd → Type 0
 EndsChecked seat code old new how =
-    (committed : List ℕ) (order : List (ℕ × ℕ)) (counts : Counts) → IsSelected old seat → KeepsDesk old committed
+    (committed : List ℕ) (order : List (ℕ × ℕ)) (counts : Counts) → IsSeatSelected old seat → KeepsDesk old committed
     → row (program_in old seat) old.reach.directory (plain_in old seat committed) ≡ Check code → HasEnded how (instruction_in old seat committed order counts) new committed order counts
 
 -- an access that is to be served ends the turn so
@@ -243,14 +243,14 @@ pub record KeepsLimit {U : Type 0} (seat : ℕ) (wants : List Want) (old new : A
 
 -- over whatever is committed in the store, an instruction of who sits in a seat comes to this
 abbrev pub Instructs :
-    {W : Type 0} → Ghosts W → KeptStore → W → (seat : ℕ) → (old new : Activity) → (before after : Tally) → ((Word → Turning) → Activity → ℕ → List ℕ → List (ℕ × ℕ) → Counts → Type 0) → Type 0
+    {W : Type 0} → Ghosts W → StoreView → W → (seat : ℕ) → (old new : Activity) → (before after : Tally) → ((DiskWord → Turning) → Activity → ℕ → List ℕ → List (ℕ × ℕ) → Counts → Type 0) → Type 0
 Instructs G store outside seat old new before after comes =
     (committed : List ℕ) (order : List (ℕ × ℕ)) → IsStoreOf G store outside committed → KeepsDesk old committed
     → comes (instruction_in old seat committed order (tally_counts before)) new seat committed order (tally_counts after)
 
 -- A stage of an instruction keeps what stays; it goes on, or ended the turn for a cause and not since it may run no more; and it comes to this.
-pub record ComesOut {U W : Type 0} (G : Ghosts W) (store : KeptStore) (seat : ℕ) (old new : Activity) (outside later : W) (before after : Tally)
-    (result : Result U TurnEnd) (comes : Result U TurnEnd → (Word → Turning) → Activity → ℕ → List ℕ → List (ℕ × ℕ) → Counts → Type 0) : Type 0 where
+pub record ComesOut {U W : Type 0} (G : Ghosts W) (store : StoreView) (seat : ℕ) (old new : Activity) (outside later : W) (before after : Tally)
+    (result : Result U TurnEnd) (comes : Result U TurnEnd → (DiskWord → Turning) → Activity → ℕ → List ℕ → List (ℕ × ℕ) → Counts → Type 0) : Type 0 where
   pub keeps : KeepsAll G old new 0 outside later
   pub on : OnOk result (StaysCalm G old new seat outside later)
   pub over : IfErr result (EndsRows G (number_in old.seating seat) new outside later before after)
@@ -258,13 +258,13 @@ pub record ComesOut {U W : Type 0} (G : Ghosts W) (store : KeptStore) (seat : �
   pub step : Instructs G store outside seat old new before after (comes result)
 
 -- and so do the rows of a turn
-abbrev pub Turns : {U W : Type 0} → Ghosts W → KeptStore → W → (seat limit : ℕ) → (old new : Activity) → (before after : Tally) → Result U TurnEnd → Type 0
+abbrev pub Turns : {U W : Type 0} → Ghosts W → StoreView → W → (seat limit : ℕ) → (old new : Activity) → (before after : Tally) → Result U TurnEnd → Type 0
 Turns G store outside seat limit old new before after result =
     (committed : List ℕ) (order : List (ℕ × ℕ)) → IsStoreOf G store outside committed → KeepsDesk old committed
     → AreTurns result (turn_in old seat limit committed order (tally_counts before)) new seat committed order (tally_counts after)
 
 -- The rows of a turn: what they keep, how many ran, that they go on to the commit call or ended for a cause, and what they come to.
-pub record RunsTurn {U W : Type 0} (G : Ghosts W) (store : KeptStore) (seat limit : ℕ) (old new : Activity) (outside later : W) (before after : Tally)
+pub record RunsTurn {U W : Type 0} (G : Ghosts W) (store : StoreView) (seat limit : ℕ) (old new : Activity) (outside later : W) (before after : Tally)
     (result : Result U TurnEnd) : Type 0 where
   pub keeps : KeepsAll G old new limit outside later
   pub ran : RanWithin limit after.ran result
@@ -273,19 +273,19 @@ pub record RunsTurn {U W : Type 0} (G : Ghosts W) (store : KeptStore) (seat limi
   pub turned : Turns G store outside seat limit old new before after result
 
 -- a turn that comes to some rows more comes to as many still, or to its end
-abbrev pub KeepsTurning : {U W : Type 0} → Ghosts W → KeptStore → W → (seat : ℕ) → (old new : Activity) → (before after : Tally) → Result U TurnEnd → Type 0
+abbrev pub KeepsTurning : {U W : Type 0} → Ghosts W → StoreView → W → (seat : ℕ) → (old new : Activity) → (before after : Tally) → Result U TurnEnd → Type 0
 KeepsTurning G store outside seat old new before after result =
-    (begins : Word → Turning) (left : ℕ) (committed : List ℕ) (order : List (ℕ × ℕ)) → 0 < left → IsStoreOf G store outside committed
+    (begins : DiskWord → Turning) (left : ℕ) (committed : List ℕ) (order : List (ℕ × ℕ)) → 0 < left → IsStoreOf G store outside committed
     → IsTurning begins old seat left committed order (tally_counts before) → ComesBack result begins new seat left committed order (tally_counts after)
 
 -- so many rows of a turn went, of which the first took effect before
 abbrev pub GoesFar : (seat ran : ℕ) → (old new : Activity) → Type 0
 GoesFar seat ran old new =
-    (begins : Word → Turning) (committed : List ℕ) (order : List (ℕ × ℕ)) (counts : Counts) (rows left : ℕ) → ran ≡ 1 + rows
+    (begins : DiskWord → Turning) (committed : List ℕ) (order : List (ℕ × ℕ)) (counts : Counts) (rows left : ℕ) → ran ≡ 1 + rows
     → IsTurning begins (counted old seat 1) seat (rows + left) committed order (record counts { ran = counts.ran + 1 })
     → IsTurning begins new seat left committed order (record counts { ran = counts.ran + ran })
 
 -- the row of who sits in a seat, whose access was served, takes effect
 abbrev pub GoesServed : (seat : ℕ) → List Want → (old new : Activity) → Type 0
 GoesServed seat wants old new =
-    (begins : Word → Turning) (committed : List ℕ) (order : List (ℕ × ℕ)) (counts : Counts) → IsServed begins old seat wants committed order counts → GoesUncounted begins new seat committed order counts
+    (begins : DiskWord → Turning) (committed : List ℕ) (order : List (ℕ × ℕ)) (counts : Counts) → IsServed begins old seat wants committed order counts → GoesUncounted begins new seat committed order counts

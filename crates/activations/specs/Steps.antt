@@ -1,10 +1,10 @@
 -- What a row of one does to all, and what endings leave: one rolled back or committed, and everybody rolled back.
 use Rattle.std.specs.Prelude.{◌≡◌, ℕ, ◌+◌, ◌<◌, ◌%◌, ◌&&◌, not, if◌then◌else◌, Bool, List, slice_index, slice_set, true, false, Some, [], length}
-use Rattle.activations.specs.Below.{after, AreConsistent, byte_count, bytes_over, Commit, Counts, due_to, ended, GoesOpen, Going, has, held_at, Holding, instruction, is_line_marked, IsClean, IsLaid, Keeps, Layout, LeavesSeats, left, line_of, over_all, page_of_line, Plain, plain_over, Pool, private_bytes, Reach, released, restarted, rolled_back, row, taken_out, went_on, Word}
+use Rattle.activations.specs.Below.{after, AreConsistent, byte_count, bytes_over, Commit, Counts, due_to, seat_ended, GoesOpen, Going, has, held_at, Holding, instruction, is_line_marked, IsClean, AreLinesLaid, PoolKeeps, Layout, LeavesSeats, seat_left, line_of, over_all, page_of_line, Plain, plain_over, Pool, private_bytes, Reach, entries_released, restarted, rolled_back, row, taken_out, went_on, DiskWord}
 use Rattle.desk_law.specs.Changes.{committed_at}
 use Rattle.activations.specs.declared.live.Live.{Live}
 use Rattle.activations.specs.Activity.{Activity, live_in, program_in, entry_in, entries, store_over, desk_over, shown}
-use Rattle.activations.specs.Follows.{IsKept, KeepsDesk}
+use Rattle.activations.specs.Follows.{IsBeside, KeepsDesk}
 
 -- who sits in a seat has done so many rows more, and waits for nothing
 abbrev pub counted : Activity → (seat rows : ℕ) → Activity
@@ -25,7 +25,7 @@ pub record HasExecuted (a : Activity) (seat : ℕ) (live : Live) (bytes : List �
 
 -- who sat in a seat has left it: its private storage is begun no more, and its pages are nobody's
 abbrev pub vacated : Activity → (seat : ℕ) → Activity
-vacated a seat = record a { seating = left a.seating seat; reach = ended (released a.reach (seat + 1)) seat }
+vacated a seat = record a { seating = seat_left a.seating seat; reach = seat_ended (entries_released a.reach (seat + 1)) seat }
 
 -- the same, once the pages that he wrote into went out of the pool
 abbrev pub rolled : Activity → (seat : ℕ) → Pool → Activity
@@ -62,12 +62,12 @@ pub record AreWritten (holding : Holding) (seat : ℕ) (pages : List ℕ) : Type
 -- what is left of a rollback is kept beside the desk after it
 pub record RollsBack (a : Activity) (seat : ℕ) (pool : Pool) (committed : List ℕ) : Type 0 where
   pub desk : (order : List (ℕ × ℕ)) → desk_over (rolled a seat pool) committed order ≡ rolled_back (desk_over a committed order) (entry_in a seat)
-  pub kept : IsKept (rolled a seat pool) committed
-  pub laid : IsLaid (store_over a committed) (due_to (store_over a committed) (entry_in a seat)).writes committed (shown a committed) (shown (rolled a seat pool) committed)
+  pub kept : IsBeside (rolled a seat pool) committed
+  pub laid : AreLinesLaid (store_over a committed) (due_to (store_over a committed) (entry_in a seat)).writes committed (shown a committed) (shown (rolled a seat pool) committed)
 
 -- that, over whatever is committed that is kept beside consistent entries
 abbrev pub IsRolledBack : Activity → (seat : ℕ) → Pool → Type 0
-IsRolledBack a seat pool = (committed : List ℕ) → AreConsistent (store_over a committed) a.most_lines a.next (entries a) → IsKept a committed → RollsBack a seat pool committed
+IsRolledBack a seat pool = (committed : List ℕ) → AreConsistent (store_over a committed) a.most_lines a.next (entries a) → IsBeside a committed → RollsBack a seat pool committed
 
 -- Lines of these pages of a pool are marked no more, and all else stays.
 pub record WereSettled (lines : ℕ → List ℕ) (pages : List ℕ) (old new : Pool) : Type 0 where
@@ -75,37 +75,37 @@ pub record WereSettled (lines : ℕ → List ℕ) (pages : List ℕ) (old new : 
   pub rest : new ≡ record old { marked = new.marked }
 
 -- who sits in a seat has committed at a state: what is left follows the desk after it, over what he left
-pub record Commits (a : Activity) (seat : ℕ) (pool : Pool) (committed : List ℕ) (now : Plain) : Type 0 where
+pub record HasCommittedAt (a : Activity) (seat : ℕ) (pool : Pool) (committed : List ℕ) (now : Plain) : Type 0 where
   pub desk : (order : List (ℕ × ℕ)) → desk_over (rolled a seat pool) now.store order ≡ committed_at (desk_over a committed order) (entry_in a seat) now
   pub follows : KeepsDesk (rolled a seat pool) now.store
 
 -- that, wherever he is at his commit call
-abbrev pub IsCommitted : Activity → (seat : ℕ) → Pool → Type 0
-IsCommitted a seat pool =
+abbrev pub CommitsWherever : Activity → (seat : ℕ) → Pool → Type 0
+CommitsWherever a seat pool =
     (committed : List ℕ) (now : Plain) → KeepsDesk a committed → after (program_in a seat) (entry_in a seat).runs.args (store_over a committed) (entry_in a seat).rows ≡ Some now
-    → row (program_in a seat) a.reach.directory (over_all now (shown a committed)) ≡ Commit → Commits a seat pool committed now
+    → row (program_in a seat) a.reach.directory (over_all now (shown a committed)) ≡ Commit → HasCommittedAt a seat pool committed now
 
 -- frames have other bytes and pages: what was marked and private stays, whatever is committed
-pub record IsMoved (old new : Pool) : Type 0 where
+pub record IsPoolMoved (old new : Pool) : Type 0 where
   pub marked : new.marked ≡ old.marked
   pub private : (seat : ℕ) → seat < 16 → private_bytes new seat ≡ private_bytes old seat
   pub size : new.page ≡ old.page
   pub frames : new.frames ≡ old.frames
 
 -- the pool is another
-abbrev pub with_pool : Activity → Pool → Activity
-with_pool a pool = record a { reach = record a.reach { pool = pool } }
+abbrev pub with_other_pool : Activity → Pool → Activity
+with_other_pool a pool = record a { reach = record a.reach { pool = pool } }
 
 -- a row of who sits in a seat is an instruction of the desk, and what is left follows the desk after it
-pub record GoesOn (a : Activity) (seat : ℕ) (live : Live) (bytes : List ℕ) (marked : List (List ℕ)) (committed : List ℕ) : Type 0 where
-  pub is_instruction : (word : Word) (order : List (ℕ × ℕ)) (counts : Counts)
+pub record RowGoesOn (a : Activity) (seat : ℕ) (live : Live) (bytes : List ℕ) (marked : List (List ℕ)) (committed : List ℕ) : Type 0 where
+  pub is_instruction : (word : DiskWord) (order : List (ℕ × ℕ)) (counts : Counts)
       → instruction word (Some (entry_in a seat)) (desk_over a committed order) counts
       ≡ Going (desk_over (counted (executed a seat live bytes marked) seat 1) committed order) (record counts { ran = counts.ran + 1 })
   pub follows : KeepsDesk (counted (executed a seat live bytes marked) seat 1) committed
 
 -- the same over so many rows that took effect and aren't counted yet
 pub record Strides (a : Activity) (seat rows : ℕ) (live : Live) (bytes : List ℕ) (marked : List (List ℕ)) (committed : List ℕ) : Type 0 where
-  pub is_instruction : (word : Word) (order : List (ℕ × ℕ)) (counts : Counts)
+  pub is_instruction : (word : DiskWord) (order : List (ℕ × ℕ)) (counts : Counts)
       → instruction word (Some (entry_in (counted a seat rows) seat)) (desk_over (counted a seat rows) committed order) counts
       ≡ Going (desk_over (counted (executed a seat live bytes marked) seat (rows + 1)) committed order) (record counts { ran = counts.ran + 1 })
   pub follows : KeepsDesk (counted (executed a seat live bytes marked) seat (rows + 1)) committed
@@ -149,7 +149,7 @@ pub record HasSettled (holding : Holding) (seat : ℕ) (old new : Reach) : Type 
   pub keeps : (committed : List ℕ) → IsClean old.directory old.pool committed
       → ((place : ℕ) → place < byte_count old.directory → has (held_at holding seat (page_of_line (line_of old.directory place))).1 (line_of old.directory place % 16) ≡ true
       → slice_index (bytes_over old.directory old.pool committed) place ≡ slice_index committed place)
-      → Keeps old.directory old.pool new.pool committed
+      → PoolKeeps old.directory old.pool new.pool committed
 
 -- the one or the other, as what was written is committed or not
 pub record EndsWritten (committed : Bool) (holding : Holding) (seat : ℕ) (old new : Reach) : Type 0 where
@@ -170,7 +170,7 @@ pub record LeavesRolled (old : Activity) (seat : ℕ) (new : Activity) : Type 0 
 -- who sat in a seat has left it, and what he wrote is committed
 pub record LeavesWritten (old : Activity) (seat : ℕ) (new : Activity) : Type 0 where
   pub shape : new ≡ rolled old seat new.reach.pool
-  pub commits : IsCommitted old seat new.reach.pool
+  pub commits : CommitsWherever old seat new.reach.pool
 
 -- bytes stand where what was printed in a seat stood
 abbrev pub reprinted : Activity → (seat : ℕ) → (out : List ℕ) → Activity

@@ -1,7 +1,7 @@
 -- The lines that an access touches, page by page.
 use Rattle.std.specs.Prelude.{[], ℕ, ◌+◌, ◌-◌, ◌*◌, ◌<◌, ◌==◌, ◌&&◌, ◌≡◌, not, if◌then◌else◌, Bool, false, filter, slice_index_or, List, ◌∷◌, ◌++◌, All, length, map}
 use Rattle.activations.specs.Below.{AreDistinct, AreOfPage, AreWithin, Authority, between, grant_of, has, is_fine_page, Layout, Lines, lines_wanted, list_any, page_count, pages_of, range_with_len, refuses, union, unowned, Want}
-use Rattle.activations.specs.declared.touch.Touch.{Touch}
+use Rattle.activations.specs.declared.touched_lines.TouchedLines.{TouchedLines}
 
 -- the lines from a first to a last, to store to or to load from
 abbrev pub lines_between : (first last : ℕ) → (store : Bool) → Lines
@@ -25,24 +25,24 @@ abbrev pub stores_into : List Want → (page : ℕ) → Bool
 stores_into wants page = list_any (λ want. (want.page == page) && not (length want.writes == 0)) wants
 
 -- the lines of a touch, by their pages
-abbrev pub wants_of : Touch → List Want
-wants_of Touch.Nothing = []
-wants_of (Touch.One want) = want ∷ []
-wants_of (Touch.Two first second) = first ∷ second ∷ []
+abbrev pub wants_of : TouchedLines → List Want
+wants_of TouchedLines.Nothing = []
+wants_of (TouchedLines.One want) = want ∷ []
+wants_of (TouchedLines.Two first second) = first ∷ second ∷ []
 
 -- whether an entry refuses an identifier one of the lines that are wanted of its page
 abbrev pub refuses_want : List Authority → (tid : ℕ) → Want → Bool
 refuses_want owned tid want = refuses (grant_of (slice_index_or owned want.page unowned)) tid (record { reads = want.reads; writes = want.writes })
 
 -- whether the first, and the second page of a touch is refused
-abbrev pub each_refused : List Authority → (tid : ℕ) → Touch → Bool × Bool
-each_refused owned tid Touch.Nothing = (false, false)
-each_refused owned tid (Touch.One want) = (refuses_want owned tid want, false)
-each_refused owned tid (Touch.Two first second) = (refuses_want owned tid first, refuses_want owned tid second)
+abbrev pub each_refused : List Authority → (tid : ℕ) → TouchedLines → Bool × Bool
+each_refused owned tid TouchedLines.Nothing = (false, false)
+each_refused owned tid (TouchedLines.One want) = (refuses_want owned tid want, false)
+each_refused owned tid (TouchedLines.Two first second) = (refuses_want owned tid first, refuses_want owned tid second)
 
 -- whether a touch is of one page, whose entry refuses an identifier none of its lines
-abbrev pub is_granted : List Authority → (tid : ℕ) → Touch → Bool
-is_granted owned tid (Touch.One want) = not (refuses_want owned tid want)
+abbrev pub is_granted : List Authority → (tid : ℕ) → TouchedLines → Bool
+is_granted owned tid (TouchedLines.One want) = not (refuses_want owned tid want)
 is_granted owned tid touch = false
 
 -- the pages of which one is refused
@@ -58,13 +58,13 @@ abbrev pub page_if : Bool → (page : ℕ) → List ℕ
 page_if picked page = if picked then page ∷ [] else []
 
 -- the pages of a touch that are picked, the first before the second
-abbrev pub pages_picked : Touch → (picked : Bool × Bool) → List ℕ
-pages_picked Touch.Nothing picked = []
-pages_picked (Touch.One want) picked = page_if picked.0 want.page
-pages_picked (Touch.Two first second) picked = page_if picked.0 first.page ++ page_if picked.1 second.page
+abbrev pub pages_picked : TouchedLines → (picked : Bool × Bool) → List ℕ
+pages_picked TouchedLines.Nothing picked = []
+pages_picked (TouchedLines.One want) picked = page_if picked.0 want.page
+pages_picked (TouchedLines.Two first second) picked = page_if picked.0 first.page ++ page_if picked.1 second.page
 
 -- the lines of a page among these wants are those of this one
-pub record IsApart (wants : List Want) (want : Want) : Type 0 where
+pub record IsWantApart (wants : List Want) (want : Want) : Type 0 where
   pub reads : (line : ℕ) → line < 16 → has (lines_wanted wants).reads (want.page * 16 + line) ≡ has want.reads line
   pub writes : (line : ℕ) → line < 16 → has (lines_wanted wants).writes (want.page * 16 + line) ≡ has want.writes line
 
@@ -72,6 +72,6 @@ pub record IsApart (wants : List Want) (want : Want) : Type 0 where
 pub record AreWanted (directory : Layout) (wants : List Want) : Type 0 where
   pub within : AreWithin (page_count directory) wants
   pub sets : AreOfPage wants
-  pub apart : All (IsApart wants) wants
+  pub apart : All (IsWantApart wants) wants
   pub once : AreDistinct (pages_wanted wants)
   pub pages : pages_wanted wants ≡ pages_of ((lines_wanted wants).reads ++ (lines_wanted wants).writes)

@@ -1,19 +1,19 @@
 -- What instructions and turns come to, stage by stage and as they are answered.
 use Rattle.std.specs.Prelude.{[], ◌≡◌, ◌≢◌, ℕ, List, map, Result, Ok, Err, ◌+◌, ◌<◌, ◌≤◌, ◌∷◌, length, Bool, Option, Some}
-use Rattle.activations.specs.Below.{Access, after, Attempt, Authority, byte_count, Commit, commits, Counts, Desk, Disk, ending_told, Ghosts, Going, holders, IsClean, lines_wanted, number_in, On, Over, over_all, Plain, ReadFailed, Reads, Request, Rose, row, TurnEnd, Turning, turns, Want, wanted, Word}
+use Rattle.activations.specs.Below.{Access, after, InFlight, Authority, byte_count, Commit, commits, Counts, Desk, Disk, ending_told, Ghosts, Going, holders, IsClean, lines_wanted, number_in, On, Over, over_all, Plain, ReadFailed, Reads, Request, Rose, row, TurnEnd, Turning, turns, Want, wanted, DiskWord}
 use Rattle.activations.specs.declared.tally.Tally.{Tally}
 use Rattle.activations.specs.Activity.{Activity, desk_over, live_in, program_in, entry_in, store_over, shown}
 use Rattle.activations.specs.Follows.{KeepsDesk}
 use Rattle.activations.specs.Serving.{ComesToEnd, IsFree, IsContested, Goes, asking, AreLowered, pages_lowered, with_entries}
 use Rattle.activations.specs.declared.live.Live.{Live}
-use Rattle.activations.specs.declared.touch.Touch.{Touch}
+use Rattle.activations.specs.declared.touched_lines.TouchedLines.{TouchedLines}
 use Rattle.activations.specs.Steps.{counted, executed, HasExecuted}
 use Rattle.activations.specs.Touched.{wants_of, pages_picked, with_whole_page}
-use Rattle.activations.specs.declared.instructions.Went.{Went}
-use Rattle.activations.specs.Kept.{IsShut}
+use Rattle.activations.specs.declared.instructions.StepWent.{StepWent}
+use Rattle.activations.specs.Kept.{IsLineShut}
 use Rattle.desk.specs.declared.answers.TurnEnd.TheVariants as end
 use Rattle.desk.specs.Instruction as desk
-use Rattle.activations.specs.declared.instructions.Went.TheVariants as went
+use Rattle.activations.specs.declared.instructions.StepWent.TheVariants as went
 
 -- what a turn has counted
 abbrev pub tally_counts : Tally → Counts
@@ -26,12 +26,12 @@ tally_counts tally =
     }
 
 -- the page that was counted last couldn't be read
-pub record HasBroken (begins : Word → Turning) (a : Activity) (committed : List ℕ) (order : List (ℕ × ℕ)) (counts : Counts) : Type 0 where
+pub record HasBroken (begins : DiskWord → Turning) (a : Activity) (committed : List ℕ) (order : List (ℕ × ℕ)) (counts : Counts) : Type 0 where
   pub comes : begins (ReadFailed counts.pages) ≡ Over (desk_over a committed order) counts Disk
   pub follows : KeepsDesk a committed
 
 -- it came to this end
-abbrev pub HasEnded : TurnEnd → (begins : Word → Turning) → Activity → (committed : List ℕ) → (order : List (ℕ × ℕ)) → Counts → Type 0
+abbrev pub HasEnded : TurnEnd → (begins : DiskWord → Turning) → Activity → (committed : List ℕ) → (order : List (ℕ × ℕ)) → Counts → Type 0
 HasEnded end.Disk begins a committed order counts = HasBroken begins a committed order counts
 HasEnded end begins a committed order counts = (printed : List ℕ) → ComesToEnd begins a committed order counts (ending_told end printed)
 
@@ -42,9 +42,9 @@ IsContestEnd number (end.Waits waiter holders) = (waiter ≡ number) × (holders
 IsContestEnd number _ = ⊥
 
 -- wherever a contest of who sits in a seat began, this follows of what began, of the attempt, of what was committed and of the order
-abbrev pub FromContest : (seat : ℕ) → Activity → Counts → (follows : (Word → Turning) → Attempt → List ℕ → Desk → List ℕ → List (ℕ × ℕ) → Type 0) → Type 0
+abbrev pub FromContest : (seat : ℕ) → Activity → Counts → (follows : (DiskWord → Turning) → InFlight → List ℕ → Desk → List ℕ → List (ℕ × ℕ) → Type 0) → Type 0
 FromContest seat old before follows =
-    (begins : Word → Turning) (attempt : Attempt) (refused : List ℕ) (first : Desk) (committed : List ℕ) (order : List (ℕ × ℕ))
+    (begins : DiskWord → Turning) (attempt : InFlight) (refused : List ℕ) (first : Desk) (committed : List ℕ) (order : List (ℕ × ℕ))
     → attempt.entry.number ≡ number_in old.seating seat → IsContested begins attempt refused first old committed order before → follows begins attempt refused first committed order
 
 -- what is contested at first is contested from here
@@ -52,7 +52,7 @@ abbrev pub Contests : (seat : ℕ) → (old : Activity) → (before : Counts) �
 Contests seat old before now after = FromContest seat old before (λ begins attempt refused first committed order. IsContested begins attempt refused first now committed order after)
 
 -- a contest is over: nobody holds any more what was asked for, or the turn came to its end
-abbrev pub IsSettled : {U : Type 0} → Result U TurnEnd → (begins : Word → Turning) → Attempt → (refused : List ℕ) → Activity → (committed : List ℕ) → (order : List (ℕ × ℕ)) → Counts → Type 0
+abbrev pub IsSettled : {U : Type 0} → Result U TurnEnd → (begins : DiskWord → Turning) → InFlight → (refused : List ℕ) → Activity → (committed : List ℕ) → (order : List (ℕ × ℕ)) → Counts → Type 0
 IsSettled (Ok nothing) begins attempt refused a committed order counts = IsFree begins attempt refused a committed order counts
 IsSettled (Err end) begins attempt refused a committed order counts = HasEnded end begins a committed order counts
 
@@ -84,37 +84,37 @@ IfWaits number (end.Waits waiter holders) = (waiter ≡ number) × (holders.item
 IfWaits number _ = Unit {0}
 
 -- wherever an instruction began, the row of who sits in a seat took effect, and is still to be counted
-abbrev pub GoesUncounted : (begins : Word → Turning) → Activity → (seat : ℕ) → (committed : List ℕ) → (order : List (ℕ × ℕ)) → Counts → Type 0
+abbrev pub GoesUncounted : (begins : DiskWord → Turning) → Activity → (seat : ℕ) → (committed : List ℕ) → (order : List (ℕ × ℕ)) → Counts → Type 0
 GoesUncounted begins a seat committed order counts = Goes begins (counted a seat 1) committed order (record counts { ran = counts.ran + 1 })
 
 -- that, or its turn came to this end
-abbrev pub IsInstruction : {U : Type 0} → Result U TurnEnd → (begins : Word → Turning) → Activity → (seat : ℕ) → (committed : List ℕ) → (order : List (ℕ × ℕ)) → Counts → Type 0
+abbrev pub IsInstruction : {U : Type 0} → Result U TurnEnd → (begins : DiskWord → Turning) → Activity → (seat : ℕ) → (committed : List ℕ) → (order : List (ℕ × ℕ)) → Counts → Type 0
 IsInstruction (Ok nothing) begins a seat committed order counts = GoesUncounted begins a seat committed order counts
 IsInstruction (Err end) begins a seat committed order counts = HasEnded end begins a committed order counts
 
 -- what is asked for in a seat is free where nobody holds it, and else contested
-pub record IsAsked (begins : Word → Turning) (attempt : Attempt) (refused : List ℕ) (a : Activity) (seat : ℕ) (wants : List Want) (committed : List ℕ) (order : List (ℕ × ℕ)) (counts : Counts) : Type 0 where
+pub record IsWanted (begins : DiskWord → Turning) (attempt : InFlight) (refused : List ℕ) (a : Activity) (seat : ℕ) (wants : List Want) (committed : List ℕ) (order : List (ℕ × ℕ)) (counts : Counts) : Type 0 where
   pub number : attempt.entry.number ≡ number_in a.seating seat
   pub free : holders a.seating seat (map (with_whole_page a.reach.directory) wants) ≡ [] → IsFree begins attempt refused a committed order counts
   pub contested : (request : Request) (holder : ℕ) (others : List ℕ) → request.wants.items ≡ map (with_whole_page a.reach.directory) wants → holders a.seating seat (map (with_whole_page a.reach.directory) wants) ≡ holder ∷ others
       → IsContested begins attempt refused (desk_over a committed order) (asking a seat request) committed order counts
 
 -- the pages that a row touches are there, and what it asks for is to be got
-pub record IsPrepared (begins : Word → Turning) (a : Activity) (seat : ℕ) (touch : Touch) (refused : Bool × Bool) (committed : List ℕ) (order : List (ℕ × ℕ)) (counts : Counts) : Type 0 where
-  pub attempt : Attempt
+pub record IsPrepared (begins : DiskWord → Turning) (a : Activity) (seat : ℕ) (touch : TouchedLines) (refused : Bool × Bool) (committed : List ℕ) (order : List (ℕ × ℕ)) (counts : Counts) : Type 0 where
+  pub attempt : InFlight
   pub next : Plain
   pub goes : attempt.outcome ≡ On next
   pub lines : attempt.lines ≡ lines_wanted (wants_of touch)
-  pub asked : IsAsked begins attempt (pages_picked touch refused) a seat (wants_of touch) committed order counts
+  pub asked : IsWanted begins attempt (pages_picked touch refused) a seat (wants_of touch) committed order counts
 
 -- that, or its turn came to this end
-abbrev pub Prepares : Result (Touch × (Bool × Bool)) TurnEnd → (begins : Word → Turning) → Activity → (seat : ℕ) → (committed : List ℕ) → (order : List (ℕ × ℕ)) → Counts → Type 0
+abbrev pub Prepares : Result (TouchedLines × (Bool × Bool)) TurnEnd → (begins : DiskWord → Turning) → Activity → (seat : ℕ) → (committed : List ℕ) → (order : List (ℕ × ℕ)) → Counts → Type 0
 Prepares (Ok got) begins a seat committed order counts = IsPrepared begins a seat got.0 got.1 committed order counts
 Prepares (Err end) begins a seat committed order counts = HasEnded end begins a committed order counts
 
 -- What it asked for was got: once it has taken effect, and the write bits of the fine pages that it wrote into went off, that is the
 -- desk's instruction.
-pub record IsServed (begins : Word → Turning) (a : Activity) (seat : ℕ) (wants : List Want) (committed : List ℕ) (order : List (ℕ × ℕ)) (counts : Counts) : Type 0 where
+pub record IsServed (begins : DiskWord → Turning) (a : Activity) (seat : ℕ) (wants : List Want) (committed : List ℕ) (order : List (ℕ × ℕ)) (counts : Counts) : Type 0 where
   pub goes : (live : Live) (bytes : List ℕ) (marked : List (List ℕ)) (eased : List Authority) → HasExecuted a seat live bytes marked committed
       → AreLowered a seat (pages_lowered a seat wants) a.reach.entries eased
       → GoesUncounted begins (with_entries (executed a seat live bytes marked) eased) seat committed order counts
@@ -122,49 +122,49 @@ pub record IsServed (begins : Word → Turning) (a : Activity) (seat : ℕ) (wan
   pub clean : IsClean a.reach.directory a.reach.pool committed
 
 -- that, or its turn came to this end
-abbrev pub Serves : {U : Type 0} → Result U TurnEnd → (begins : Word → Turning) → Activity → (seat : ℕ) → (wants : List Want) → (committed : List ℕ) → (order : List (ℕ × ℕ)) → Counts → Type 0
+abbrev pub Serves : {U : Type 0} → Result U TurnEnd → (begins : DiskWord → Turning) → Activity → (seat : ℕ) → (wants : List Want) → (committed : List ℕ) → (order : List (ℕ × ℕ)) → Counts → Type 0
 Serves (Ok nothing) begins a seat wants committed order counts = IsServed begins a seat wants committed order counts
 Serves (Err end) begins a seat wants committed order counts = HasEnded end begins a committed order counts
 
 -- the commit call of who sits in a seat, at a state
-abbrev pub commit_call : Activity → (seat : ℕ) → (committed : List ℕ) → (order : List (ℕ × ℕ)) → Plain → desk.Attempt
+abbrev pub commit_call : Activity → (seat : ℕ) → (committed : List ℕ) → (order : List (ℕ × ℕ)) → Plain → desk.InFlight
 commit_call a seat committed order now =
     record { entry = entry_in a seat; now = now; outcome = row (program_in a seat) a.reach.directory now; lines = wanted (desk_over a committed order) (entry_in a seat) }
 
 -- who sits in a seat is at his commit call
-pub record IsAtCommit (begins : Word → Turning) (a : Activity) (seat : ℕ) (committed : List ℕ) (order : List (ℕ × ℕ)) (counts : Counts) : Type 0 where
+pub record IsAtCommit (begins : DiskWord → Turning) (a : Activity) (seat : ℕ) (committed : List ℕ) (order : List (ℕ × ℕ)) (counts : Counts) : Type 0 where
   pub now : Plain
   pub at : after (program_in a seat) (entry_in a seat).runs.args (store_over a committed) (entry_in a seat).rows ≡ Some now
   pub goes : row (program_in a seat) a.reach.directory (over_all now (shown a committed)) ≡ Commit
-  pub comes : (word : Word) → Reads word counts.pages → begins word ≡ commits word (commit_call a seat committed order now) (desk_over a committed order) counts
+  pub comes : (word : DiskWord) → Reads word counts.pages → begins word ≡ commits word (commit_call a seat committed order now) (desk_over a committed order) counts
   pub follows : KeepsDesk a committed
 
 -- an instruction took effect, is the commit call, or ended its turn
-abbrev pub IsStep : Result Went TurnEnd → (begins : Word → Turning) → Activity → (seat : ℕ) → (committed : List ℕ) → (order : List (ℕ × ℕ)) → Counts → Type 0
-IsStep (Ok went.On) begins a seat committed order counts = GoesUncounted begins a seat committed order counts
-IsStep (Ok went.AtCommit) begins a seat committed order counts = IsAtCommit begins a seat committed order counts
-IsStep (Err end) begins a seat committed order counts = HasEnded end begins a committed order counts
+abbrev pub IsStepTaken : Result StepWent TurnEnd → (begins : DiskWord → Turning) → Activity → (seat : ℕ) → (committed : List ℕ) → (order : List (ℕ × ℕ)) → Counts → Type 0
+IsStepTaken (Ok went.On) begins a seat committed order counts = GoesUncounted begins a seat committed order counts
+IsStepTaken (Ok went.AtCommit) begins a seat committed order counts = IsAtCommit begins a seat committed order counts
+IsStepTaken (Err end) begins a seat committed order counts = HasEnded end begins a committed order counts
 
 -- a turn of who sits in a seat, with at most so many rows, and with what it has counted
-abbrev pub turn_in : Activity → (seat limit : ℕ) → (committed : List ℕ) → (order : List (ℕ × ℕ)) → Counts → Word → Turning
+abbrev pub turn_in : Activity → (seat limit : ℕ) → (committed : List ℕ) → (order : List (ℕ × ℕ)) → Counts → DiskWord → Turning
 turn_in a seat limit committed order counts word = turns word (number_in a.seating seat) limit (Going (desk_over a committed order) counts)
 
 -- the rows of a turn went up to the commit call, or to its end
-abbrev pub AreTurns : {U : Type 0} → Result U TurnEnd → (begins : Word → Turning) → Activity → (seat : ℕ) → (committed : List ℕ) → (order : List (ℕ × ℕ)) → Counts → Type 0
+abbrev pub AreTurns : {U : Type 0} → Result U TurnEnd → (begins : DiskWord → Turning) → Activity → (seat : ℕ) → (committed : List ℕ) → (order : List (ℕ × ℕ)) → Counts → Type 0
 AreTurns (Ok nothing) begins a seat committed order counts = IsAtCommit begins a seat committed order counts
 AreTurns (Err end) begins a seat committed order counts = HasEnded end begins a committed order counts
 
 -- it may be known already that the next row's access isn't permitted
 abbrev pub MayBeShut : Activity → (seat : ℕ) → Option Access → Type 0
-MayBeShut a seat shut = (access : Access) → shut ≡ Some access → IsShut a seat access
+MayBeShut a seat shut = (access : Access) → shut ≡ Some access → IsLineShut a seat access
 
 -- Wherever a turn began, it comes to so many rows more from here, at the most.
-pub record IsTurning (begins : Word → Turning) (a : Activity) (seat left : ℕ) (committed : List ℕ) (order : List (ℕ × ℕ)) (counts : Counts) : Type 0 where
-  pub comes : (word : Word) → Reads word counts.pages → begins word ≡ turn_in a seat left committed order counts word
+pub record IsTurning (begins : DiskWord → Turning) (a : Activity) (seat left : ℕ) (committed : List ℕ) (order : List (ℕ × ℕ)) (counts : Counts) : Type 0 where
+  pub comes : (word : DiskWord) → Reads word counts.pages → begins word ≡ turn_in a seat left committed order counts word
   pub follows : KeepsDesk a committed
 
 -- that, or the turn came to its end
-abbrev pub ComesBack : {U : Type 0} → Result U TurnEnd → (begins : Word → Turning) → Activity → (seat left : ℕ) → (committed : List ℕ) → (order : List (ℕ × ℕ)) → Counts → Type 0
+abbrev pub ComesBack : {U : Type 0} → Result U TurnEnd → (begins : DiskWord → Turning) → Activity → (seat left : ℕ) → (committed : List ℕ) → (order : List (ℕ × ℕ)) → Counts → Type 0
 ComesBack (Ok shut) begins a seat left committed order counts = IsTurning begins a seat left committed order counts
 ComesBack (Err end) begins a seat left committed order counts = HasEnded end begins a committed order counts
 

@@ -30,11 +30,11 @@ impl Model for Activations {
     ghost Value = { Activity };
 
     ghost use Rattle.activations.specs.Fields.{activity_of};
-    ghost use Rattle.activations.specs.Follows.{IsSound};
+    ghost use Rattle.activations.specs.Follows.{IsActivitySound};
 
     ghost view = { activity_of };
 
-    ghost invariant = { λ a. IsSound (activity_of a) };
+    ghost invariant = { λ a. IsActivitySound (activity_of a) };
 }
 
 impl Activations {

@@ -9,7 +9,7 @@ use arrayvec::ArrayVec;
 use desk::{Cycle, TurnEnd};
 
 impl Activations {
-    ghost use Rattle.activations.specs.Words.{AreAwaited, Disputes, IsSound, Settles};
+    ghost use Rattle.activations.specs.Words.{AreAwaited, Disputes, IsActivitySound, Settles};
 
     /// Who sits in a seat waits, and each cycle of waits from it is broken by rolling its victim back. Nothing is returned
     /// where nobody holds any more what it asks for.
@@ -44,7 +44,7 @@ impl Activations {
     fn cycle_from(&self, seat: u8) -> Option<ArrayVec<u32, 17>>
         requires { has self.now.seating.taken seat ≡ true }
         ensures cycle { option_map (λ cycle. cycle.items) result ≡ cycle_of self.now.seating seat }
-        ensures sound { IsSound self.now }
+        ensures sound { IsActivitySound self.now }
     {
         self.seats.cycle_from(seat)
     }

@@ -1,6 +1,6 @@
 // How an activation ends.
 ghost use Rattle.std.specs.Prelude.{◌≡◌, ◌<◌, true, false};
-ghost use Rattle.activations.specs.Below.{has, IsWhole, numbers, page_count, reach_of, seat_of, sitter};
+ghost use Rattle.activations.specs.Below.{has, IsWholeHolding, numbers_seated, page_count, reach_of, seat_of, sitter};
 ghost use Rattle.activations.specs.Words.{EndsWritten, IsDeserted, IsRestarted, KeepsDesk, LeavesRolled, LeavesWritten, live_in, OverDesk, reprinted};
 
 use super::activations::Activations;
@@ -42,7 +42,7 @@ impl Activations {
 
     /// The numbers of those that are active, in the order in which they began.
     pub fn active(&self) -> ArrayVec<u32, 16>
-        ensures { result.items ≡ numbers self.now.seating }
+        ensures { result.items ≡ numbers_seated self.now.seating }
     {
         self.seats.numbers()
     }
@@ -94,7 +94,7 @@ impl Activations {
 #[inline(always)]
 fn end_written(seats: &Seats, unit: &mut Unit, seat: u8, committed: bool)
     requires seat { seat < 16 }
-    requires whole { IsWhole seats.now.holding }
+    requires whole { IsWholeHolding seats.now.holding }
     requires pages { seats.now.holding.pages ≡ page_count (reach_of unit.old).directory }
     ensures { EndsWritten committed seats.now.holding seat (reach_of unit.old) (reach_of unit.new) }
 {

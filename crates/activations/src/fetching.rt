@@ -1,12 +1,12 @@
 // Pages come in from the store on the disk.
 ghost use Rattle.std.specs.Prelude.{[], ◌≡◌, ◌+◌, ◌<◌, ◌^◌, false, OnOk, OnErr};
 ghost use Rattle.activations.specs.Below.{FailsOnlyCounted, has, OnlyAsks, page_count, reach_of};
-ghost use Rattle.activations.specs.Words.{AreWanted, CanFetch, ComesIn, CountsPages, Fetches, HasCome, IsMoved, KeepsStore, pages_wanted, wants_of, with_pool};
+ghost use Rattle.activations.specs.Words.{AreWanted, CanFetch, ComesIn, CountsPages, Fetches, HasCome, IsPoolMoved, KeepsStore, pages_wanted, wants_of, with_other_pool};
 
 use super::activations::Activations;
-use super::pages::StorePages;
+use super::store_pages::StorePages;
 use super::tally::Tally;
-use super::touch::Touch;
+use super::touched_lines::TouchedLines;
 use outside::{Failed, Outside};
 use storage_unit::Unit;
 use store::Durable;
@@ -23,14 +23,14 @@ impl Activations {
         &mut self,
         store: &Durable,
         outside: &mut W,
-        touch: &Touch,
+        touch: &TouchedLines,
         tally: &mut Tally,
     ) -> Result<(), Failed>
         requires can { CanFetch W.Outside self.old.reach.directory store.now outside.old }
         requires wanted { AreWanted self.old.reach.directory (wants_of touch.now) }
         requires few { tally.old.pages + 2 < 2 ^ 32 }
         ensures asks { OnlyAsks W.Outside outside.old outside.new }
-        ensures shape { self.new ≡ with_pool self.old self.new.reach.pool }
+        ensures shape { self.new ≡ with_other_pool self.old self.new.reach.pool }
         ensures counts { CountsPages tally.old tally.new }
         ensures cause { FailsOnlyCounted (W.disk_faults outside.old) (W.disk_faults outside.new) result }
         ensures counted { OnErr result (tally.old.pages < tally.new.pages) }
@@ -38,9 +38,9 @@ impl Activations {
         ensures fetched { Fetches result W.Outside store.now outside.old self.old (pages_wanted (wants_of touch.now)) tally.old.pages self.new.reach.pool tally.new.pages }
     {
         match touch {
-            Touch::Nothing => Ok(()),
-            Touch::One(only) => self.fetch_page(store, outside, only.page, None, tally),
-            Touch::Two(first, second) => {
+            TouchedLines::Nothing => Ok(()),
+            TouchedLines::One(only) => self.fetch_page(store, outside, only.page, None, tally),
+            TouchedLines::Two(first, second) => {
                 self.fetch_page(store, outside, first.page, Some(second.page), tally)?;
                 self.fetch_page(store, outside, second.page, Some(first.page), tally)
             }
@@ -62,10 +62,10 @@ impl Activations {
         requires can { CanFetch W.Outside self.old.reach.directory store.now outside.old }
         requires few { tally.old.pages + 1 < 2 ^ 32 }
         ensures asks { OnlyAsks W.Outside outside.old outside.new }
-        ensures shape { self.new ≡ with_pool self.old self.new.reach.pool }
+        ensures shape { self.new ≡ with_other_pool self.old self.new.reach.pool }
         ensures tally { tally.new ≡ record tally.old { pages = tally.new.pages } }
         ensures cause { FailsOnlyCounted (W.disk_faults outside.old) (W.disk_faults outside.new) result }
-        ensures moved { IsMoved self.old.reach.pool self.new.reach.pool }
+        ensures moved { IsPoolMoved self.old.reach.pool self.new.reach.pool }
         ensures came { ComesIn result self.old self.new page keep tally.old tally.new }
         ensures keeps { KeepsStore W.Outside store.now outside.old self.old.reach self.new.reach }
     {
@@ -91,7 +91,7 @@ fn bring_page<W: Outside>(
     ensures asks { OnlyAsks W.Outside outside.old outside.new }
     ensures rest { reach_of unit.new ≡ record (reach_of unit.old) { pool = (reach_of unit.new).pool } }
     ensures cause { FailsOnlyCounted (W.disk_faults outside.old) (W.disk_faults outside.new) result }
-    ensures moved { IsMoved (reach_of unit.old).pool (reach_of unit.new).pool }
+    ensures moved { IsPoolMoved (reach_of unit.old).pool (reach_of unit.new).pool }
     ensures came { OnOk result (HasCome (reach_of unit.old).pool (reach_of unit.new).pool page keep) }
     ensures none { OnErr result ((reach_of unit.new).pool.resident ≡ []) }
     ensures keeps { KeepsStore W.Outside store.now outside.old (reach_of unit.old) (reach_of unit.new) }

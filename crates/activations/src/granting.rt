@@ -4,7 +4,7 @@ ghost use Rattle.activations.specs.Below.{AreDistinct, AreWithin, has, page_coun
 ghost use Rattle.activations.specs.Words.{AreWanted, Grants, GrantsPicked, locked, Lowers, page_if, pages_wanted, wants_of, with_entries, with_whole_page};
 
 use super::activations::Activations;
-use super::touch::Touch;
+use super::touched_lines::TouchedLines;
 use lines::LineSet;
 use page_table::Authority;
 use seats::{Request, Want};
@@ -12,7 +12,7 @@ use seats::{Request, Want};
 impl Activations {
     /// What a touch asks for.
     #[inline(always)]
-    pub(super) fn request(&self, touch: &Touch) -> Request
+    pub(super) fn request(&self, touch: &TouchedLines) -> Request
         ensures { result.wants.items ≡ map (with_whole_page self.now.reach.directory) (wants_of touch.now) }
     {
         touch.request(self.unit.directory())
@@ -20,7 +20,7 @@ impl Activations {
 
     /// Who sits in a seat holds what he asked for, and the pages whose entries refused him are granted.
     #[inline(always)]
-    pub(super) fn take(&mut self, seat: u8, touch: &Touch, refused: (bool, bool))
+    pub(super) fn take(&mut self, seat: u8, touch: &TouchedLines, refused: (bool, bool))
         requires taken { has self.old.seating.taken seat ≡ true }
         requires wanted { AreWanted self.old.reach.directory (wants_of touch.now) }
         ensures shape { self.new ≡ locked self.old seat (wants_of touch.now) self.new.reach.entries }
@@ -34,7 +34,7 @@ impl Activations {
     /// The pages of a touch that are picked are granted to a seat.
     #[inline(always)]
     #[tactic(auto, using(crate::proofs::GrantLemmas::one_within, crate::proofs::GrantLemmas::first_within, crate::proofs::GrantLemmas::second_within))]
-    fn grant_picked(&mut self, seat: u8, touch: &Touch, picked: (bool, bool))
+    fn grant_picked(&mut self, seat: u8, touch: &TouchedLines, picked: (bool, bool))
         requires taken { has self.old.seating.taken seat ≡ true }
         requires pages { AreWithin (page_count self.old.reach.directory) (wants_of touch.now) }
         requires once { AreDistinct (pages_wanted (wants_of touch.now)) }
@@ -42,9 +42,9 @@ impl Activations {
         ensures granted { GrantsPicked self.old seat touch.now picked self.old self.new }
     {
         match touch {
-            Touch::Nothing => {}
-            Touch::One(only) => self.grant_if(picked.0, seat, only),
-            Touch::Two(first, second) => {
+            TouchedLines::Nothing => {}
+            TouchedLines::One(only) => self.grant_if(picked.0, seat, only),
+            TouchedLines::Two(first, second) => {
                 self.grant_if(picked.0, seat, first);
                 self.grant_if(picked.1, seat, second);
             }
@@ -85,16 +85,16 @@ impl Activations {
     /// The write bits of the fine pages that a touch wrote into go off, but for those of which a seat holds all lines.
     #[inline(always)]
     #[tactic(auto, using(crate::proofs::GrantLemmas::one_within, crate::proofs::GrantLemmas::first_within, crate::proofs::GrantLemmas::second_within))]
-    pub(super) fn lower(&mut self, seat: u8, touch: &Touch)
+    pub(super) fn lower(&mut self, seat: u8, touch: &TouchedLines)
         requires taken { has self.old.seating.taken seat ≡ true }
         requires pages { AreWithin (page_count self.old.reach.directory) (wants_of touch.now) }
         ensures shape { self.new ≡ with_entries self.old self.new.reach.entries }
         ensures lowered { Lowers seat (wants_of touch.now) self.old self.new }
     {
         match touch {
-            Touch::Nothing => {}
-            Touch::One(only) => self.lower_page(seat, only),
-            Touch::Two(first, second) => {
+            TouchedLines::Nothing => {}
+            TouchedLines::One(only) => self.lower_page(seat, only),
+            TouchedLines::Two(first, second) => {
                 self.lower_page(seat, first);
                 self.lower_page(seat, second);
             }

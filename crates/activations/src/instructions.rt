@@ -5,7 +5,7 @@ ghost use Rattle.desk.specs.declared.answers.TurnEnd.TheVariants as end;
 
 use super::activations::Activations;
 use super::tally::Tally;
-use super::touch::Touch;
+use super::touched_lines::TouchedLines;
 use desk::TurnEnd;
 use outside::{Failed, Outside};
 use romp_cpu::{Access, Attempt};
@@ -13,7 +13,7 @@ use store::Durable;
 
 /// How the next instruction of an activation went.
 #[derive(Clone, Copy)]
-pub enum Went {
+pub enum StepWent {
     /// It took effect.
     On,
     /// It is the commit call.
@@ -21,7 +21,7 @@ pub enum Went {
 }
 
 impl Activations {
-    ghost use Rattle.activations.specs.Words.{AreWanted, BringsIn, CanFetch, CanServe, ComesOut, CountsOne, CountsPages, CountsRefused, Disputes, EndsByDisk, EndsChecked, GoesServed, HasRoom, IsInstruction, IsSelected, IsShut, IsStep, KeepsAll, KeepsParts, live_in, MayBeShut, MayGet, pages_picked, Prepares, rolled, ServesFree, SettlesAsked, StaysCalm, StaysSeated, wants_of, WillTouch, with_pool};
+    ghost use Rattle.activations.specs.Words.{AreWanted, PagesComeIn, CanFetch, CanServe, ComesOut, CountsOne, CountsPages, CountsRefused, Disputes, EndsByDisk, EndsChecked, GoesServed, TallyHasRoom, IsInstruction, IsSeatSelected, IsLineShut, IsStepTaken, KeepsAll, KeepsParts, live_in, MayBeShut, MayGet, pages_picked, Prepares, rolled, ServesFree, SettlesAsked, StaysCalm, StaysSeated, wants_of, WillTouch, with_other_pool};
 
     /// The next instruction of who sits in a seat, which is selected. Its access may be known already not to be permitted. A
     /// row that takes effect isn't counted yet.
@@ -36,28 +36,28 @@ impl Activations {
         seat: u8,
         shut: Option<Access>,
         tally: &mut Tally,
-    ) -> Result<Went, TurnEnd>
+    ) -> Result<StepWent, TurnEnd>
         requires can { CanServe W.Outside self.old seat store.now outside.old }
-        requires room { HasRoom self.old tally.old }
+        requires room { TallyHasRoom self.old tally.old }
         requires shut { MayBeShut self.old seat shut }
         ensures counts { CountsOne self.new tally.old tally.new }
-        ensures came { ComesOut W.Outside store.now seat self.old self.new outside.old outside.new tally.old tally.new result IsStep }
+        ensures came { ComesOut W.Outside store.now seat self.old self.new outside.old outside.new tally.old tally.new result IsStepTaken }
     {
         if let Some(access) = shut {
             self.serve(store, outside, seat, access, tally)?;
-            return Ok(Went::On);
+            return Ok(StepWent::On);
         }
         self.sound();
         match self.execute(seat) {
             Attempt::Went | Attempt::Print(_) => {
                 self.sound();
-                Ok(Went::On)
+                Ok(StepWent::On)
             }
             Attempt::Fault(_, access) => {
                 self.serve(store, outside, seat, access, tally)?;
-                Ok(Went::On)
+                Ok(StepWent::On)
             }
-            Attempt::Commit => Ok(Went::AtCommit),
+            Attempt::Commit => Ok(StepWent::AtCommit),
             Attempt::Check(code) => Err(self.check(seat, code)),
         }
     }
@@ -77,8 +77,8 @@ impl Activations {
         tally: &mut Tally,
     ) -> Result<(), TurnEnd>
         requires can { CanServe W.Outside self.old seat store.now outside.old }
-        requires room { HasRoom self.old tally.old }
-        requires shut { IsShut self.old seat access }
+        requires room { TallyHasRoom self.old tally.old }
+        requires shut { IsLineShut self.old seat access }
         ensures counts { CountsOne self.new tally.old tally.new }
         ensures came { ComesOut W.Outside store.now seat self.old self.new outside.old outside.new tally.old tally.new result IsInstruction }
     {
@@ -102,9 +102,9 @@ impl Activations {
         seat: u8,
         access: Access,
         tally: &mut Tally,
-    ) -> Result<(Touch, (bool, bool)), TurnEnd>
+    ) -> Result<(TouchedLines, (bool, bool)), TurnEnd>
         requires can { CanServe W.Outside self.old seat store.now outside.old }
-        requires shut { IsShut self.old seat access }
+        requires shut { IsLineShut self.old seat access }
         requires tally { (tally.old.pages < 6000000) × (tally.old.locks < 2000000) }
         ensures may { IfOk result (λ got. MayGet self.new seat got.0 got.1) }
         ensures counts { CountsRefused tally.old tally.new }
@@ -129,7 +129,7 @@ impl Activations {
         store: &Durable,
         outside: &mut W,
         seat: u8,
-        touch: &Touch,
+        touch: &TouchedLines,
         tally: &mut Tally,
     ) -> Result<(), TurnEnd>
         requires can { CanFetch W.Outside self.old.reach.directory store.now outside.old }
@@ -139,9 +139,9 @@ impl Activations {
         ensures asks { OnlyAsks W.Outside outside.old outside.new }
         ensures counts { CountsPages tally.old tally.new }
         ensures calm { OnOk result (W.disk_faults outside.new ≡ W.disk_faults outside.old) }
-        ensures shape { OnOk result (self.new ≡ with_pool self.old self.new.reach.pool) }
+        ensures shape { OnOk result (self.new ≡ with_other_pool self.old self.new.reach.pool) }
         ensures ends { IfErr result (EndsByDisk W.Outside outside.old outside.new tally.old tally.new) }
-        ensures brings { BringsIn W.Outside store.now outside.old seat (wants_of touch.now) self.old self.new tally.old tally.new result }
+        ensures brings { PagesComeIn W.Outside store.now outside.old seat (wants_of touch.now) self.old self.new tally.old tally.new result }
     {
         match self.fetch(store, outside, touch, tally) {
             Ok(()) => Ok(()),
@@ -158,7 +158,7 @@ impl Activations {
     ///
     /// The end of the turn: he is a victim, or still waits.
     #[inline(always)]
-    fn ask(&mut self, seat: u8, touch: &Touch, tally: &mut Tally) -> Result<(), TurnEnd>
+    fn ask(&mut self, seat: u8, touch: &TouchedLines, tally: &mut Tally) -> Result<(), TurnEnd>
         requires taken { has self.old.seating.taken seat ≡ true }
         requires wanted { AreWanted self.old.reach.directory (wants_of touch.now) }
         requires cycles { array_vec_len tally.old.cycles + length self.old.seating.taken ≤ 16 }
@@ -184,7 +184,7 @@ impl Activations {
         store: &Durable,
         outside: &mut W,
         seat: u8,
-        touch: &Touch,
+        touch: &TouchedLines,
         refused: (bool, bool),
         tally: &mut Tally,
     ) -> Result<(), TurnEnd>
@@ -208,9 +208,9 @@ impl Activations {
     /// The row of who sits in a seat, whose access was served, takes effect, and the write bits of the fine pages that it wrote
     /// into go off. It isn't counted yet.
     #[inline(always)]
-    fn go_on(&mut self, seat: u8, touch: &Touch)
+    fn go_on(&mut self, seat: u8, touch: &TouchedLines)
         requires taken { has self.old.seating.taken seat ≡ true }
-        requires selected { IsSelected self.old seat }
+        requires selected { IsSeatSelected self.old seat }
         requires wanted { AreWanted self.old.reach.directory (wants_of touch.now) }
         requires touches { WillTouch self.old seat (wants_of touch.now) }
         requires opened { IsOpen self.old.reach (lines_wanted (wants_of touch.now)) }

@@ -2,24 +2,24 @@
 //! commits and ends (docs/MODEL.md, "Activations"). Pages come from a store that is open; who calls commits to it.
 #![tactic(auto)]
 
+pub mod access_laws;
 mod activations;
+mod attempts;
+mod commit_record;
 mod contest;
 mod endings;
 mod fetching;
 mod granting;
 mod instructions;
-pub mod laws;
 mod live;
-mod pages;
-mod record;
-mod rows;
-mod serving;
+mod refused_pages;
+mod store_pages;
 mod tally;
-mod touch;
+mod touched_lines;
 mod touching;
 mod turns;
 
 pub use activations::Activations;
 pub use live::Live;
 pub use tally::Tally;
-pub use touch::Touch;
+pub use touched_lines::TouchedLines;

@@ -1,10 +1,10 @@
 // The lines of the store that an access touches, and the most that are written.
 ghost use Rattle.std.specs.Prelude.{◌≡◌, ◌<◌, ◌≤◌, true, length};
 ghost use Rattle.activations.specs.Below.{difference, has, lines_wanted, located_by, page_count};
-ghost use Rattle.activations.specs.Words.{AreWanted, held_to_write, IsSound, KeepsLimit, lines_accessed, lines_with, live_in, wants_of, wrote};
+ghost use Rattle.activations.specs.Words.{AreWanted, held_to_write, IsActivitySound, KeepsLimit, lines_accessed, lines_with, live_in, wants_of, wrote};
 
 use super::activations::Activations;
-use super::touch::Touch;
+use super::touched_lines::TouchedLines;
 use desk::TurnEnd;
 use page_table::{Check, Virtual};
 use romp_cpu::Access;
@@ -14,24 +14,24 @@ use storage_unit::PRIVATE;
 impl Activations {
     /// The lines of the store that an access of who sits in a seat touches.
     #[inline(always)]
-    pub(super) fn touch_of(&self, seat: u8, access: Access) -> Touch
+    pub(super) fn touch_of(&self, seat: u8, access: Access) -> TouchedLines
         requires taken { has self.now.seating.taken seat ≡ true }
         requires some { 0 < access.bytes }
         requires few { access.bytes ≤ 64 }
         ensures lines { lines_wanted (wants_of result) ≡ lines_accessed self.now seat access }
         ensures wanted { AreWanted self.now.reach.directory (wants_of result) }
-        ensures sound { IsSound self.now }
+        ensures sound { IsActivitySound self.now }
     {
         let directory = self.unit.directory();
         let Ok(first) = self.locate(seat, access) else {
-            return Touch::Nothing;
+            return TouchedLines::Nothing;
         };
         if first.segment >= PRIVATE {
-            Touch::Nothing
+            TouchedLines::Nothing
         } else {
             let place = directory.start_of(first.segment) + access.address % 0x1000_0000;
             let end = place + u32::from(access.bytes) - 1;
-            Touch::between(
+            TouchedLines::between(
                 directory.line_of(place),
                 directory.line_of(end),
                 access.store,
@@ -56,7 +56,7 @@ impl Activations {
     ///
     /// [`TurnEnd::Journal`] exactly where they are more than a record may have.
     #[inline(always)]
-    pub(super) fn keep_limit(&mut self, seat: u8, touch: &Touch) -> Result<(), TurnEnd>
+    pub(super) fn keep_limit(&mut self, seat: u8, touch: &TouchedLines) -> Result<(), TurnEnd>
         requires taken { has self.old.seating.taken seat ≡ true }
         requires wanted { AreWanted self.old.reach.directory (wants_of touch.now) }
         ensures { KeepsLimit seat (wants_of touch.now) self.old self.new result }
@@ -73,16 +73,16 @@ impl Activations {
 
     /// How many lines who sits in a seat will have written, with those of a touch.
     #[inline(always)]
-    fn lines_with(&self, seat: u8, touch: &Touch) -> u32
+    fn lines_with(&self, seat: u8, touch: &TouchedLines) -> u32
         requires seat { seat < 16 }
         requires wanted { AreWanted self.now.reach.directory (wants_of touch.now) }
         ensures { result ≡ lines_with self.now seat (wants_of touch.now) }
     {
         let held = self.held_lines(seat);
         match touch {
-            Touch::Nothing => held,
-            Touch::One(only) => held + self.new_lines(seat, only),
-            Touch::Two(first, second) => {
+            TouchedLines::Nothing => held,
+            TouchedLines::One(only) => held + self.new_lines(seat, only),
+            TouchedLines::Two(first, second) => {
                 held + (self.new_lines(seat, first) + self.new_lines(seat, second))
             }
         }
@@ -94,7 +94,7 @@ impl Activations {
         requires seat { seat < 16 }
         ensures value { result ≡ held_to_write self.now seat }
         ensures few { result ≤ 16384 }
-        ensures sound { IsSound self.now }
+        ensures sound { IsActivitySound self.now }
     {
         self.seats.locks().written_lines(seat)
     }

@@ -3,7 +3,7 @@ ghost use Rattle.std.specs.Prelude.{◌≡◌, ◌+◌, ◌<◌, ◌≤◌, ◌^
 ghost use Rattle.activations.specs.Below.{array_vec_len, has};
 
 use super::activations::Activations;
-use super::instructions::Went;
+use super::instructions::StepWent;
 use super::tally::Tally;
 use desk::TurnEnd;
 use outside::Outside;
@@ -11,7 +11,7 @@ use romp_cpu::Access;
 use store::Durable;
 
 impl Activations {
-    ghost use Rattle.activations.specs.Words.{AreRowsWithin, CanFetch, CanServe, CountsPages, EndsByDisk, GoesFar, IsSelected, KeepsAll, KeepsParts, KeepsTurning, MayBeShut, RunsTurn, selected_in, StaysCalm, StaysSeated};
+    ghost use Rattle.activations.specs.Words.{AreRowsWithin, CanFetch, CanServe, CountsPages, EndsByDisk, GoesFar, IsSeatSelected, KeepsAll, KeepsParts, KeepsTurning, MayBeShut, RunsTurn, selected_in, StaysCalm, StaysSeated};
 
     /// The rows of a turn of who sits in a seat, at most so many, up to his commit call. Nothing was counted before.
     ///
@@ -41,8 +41,8 @@ impl Activations {
             let shut_still = self.come_back(store, outside, seat, shut, tally)?;
             self.sound();
             match self.instruct(store, outside, seat, shut_still, tally)? {
-                Went::AtCommit => return Ok(()),
-                Went::On => {
+                StepWent::AtCommit => return Ok(()),
+                StepWent::On => {
                     self.sound();
                     let (ran, access) = self.go_far(seat, left - 1, tally);
                     left -= ran;
@@ -102,7 +102,7 @@ impl Activations {
     /// itself. All are counted then: how many, and the access of the last one where it isn't permitted.
     fn go_far(&mut self, seat: u8, limit: u32, tally: &mut Tally) -> (u32, Option<Access>)
         requires taken { has self.old.seating.taken seat ≡ true }
-        requires selected { IsSelected self.old seat }
+        requires selected { IsSeatSelected self.old seat }
         requires limit { limit < 1000000 }
         requires rows { AreRowsWithin self.old (2 ^ 63 + 1000000) }
         requires tally { tally.old.ran < 2000000 }
@@ -125,7 +125,7 @@ impl Activations {
     /// The unit is what a seat reaches from now on.
     fn select(&mut self, seat: u8)
         requires taken { has self.old.seating.taken seat ≡ true }
-        ensures selected { IsSelected self.new seat }
+        ensures selected { IsSeatSelected self.new seat }
         ensures shape { self.new ≡ selected_in self.old seat }
     {
         self.is_seat(seat);

@@ -10,12 +10,12 @@ pub use Rattle.std.specs.List.{AllByRecursion, after_first, before_first, list_a
 pub use Rattle.std.specs.Option.{SomeIff, option_map}
 pub use Rattle.std.specs.Str.{IsAscii, bytes_eq}
 pub use Rattle.std.specs.Str.Parse.{AllDigits, digits_value}
-pub use Rattle.asm_parse.specs.Number.{number_in, number_of}
+pub use Rattle.asm_parse.specs.Number.{radix_number, literal_number}
 pub use Rattle.asm_parse.specs.Operand.{operands_of}
-pub use Rattle.asm_parse.specs.Statement.{body_of, line_of, statement_of, on_line}
-pub use Rattle.asm_parse.specs.Text.{Gains, is_feed, lines_of, parsed, then_statements}
+pub use Rattle.asm_parse.specs.Statement.{body_of, line_meaning, statement_of, on_line}
+pub use Rattle.asm_parse.specs.Text.{Gains, is_feed, text_lines, parsed, then_statements}
 unfoldable pub use Rattle.asm_parse.specs.Text.{statements_from}
-pub use Rattle.asm_parse.specs.Token.{before, begins, begins_word, continues_word, is_blank, mark_begins, more_of, number_begins, then_tokens, tokens, word_begins}
+pub use Rattle.asm_parse.specs.Token.{token_before, begin_at, begins_word, continues_word, is_blank, mark_begins, more_of, number_begins, then_tokens, tokens, word_begins}
 unfoldable pub use Rattle.asm_parse.specs.Token.{tokens_past}
 pub use Rattle.asm_parse.specs.declared.statement.Body.TheVariants.{Data, Entry, Nothing, Window}
 pub use Rattle.asm_parse.specs.declared.statement.Statement.{Statement}

@@ -1,5 +1,5 @@
 -- Numbers in a radix.
-use Rattle.asm_parse.proofs.Common.{◌≡◌, ℕ, zero, suc, ◌+◌, ◌*◌, ◌^◌, ◌<◌, ◌≤◌, List, [], ◌∷◌, length, get_or, take, Option, refl, arith, Decides, digit_value, is_digit, list_all, SomeIff, AllDigits, digits_value, lt-ltb, Decides-and, Decides-ltb, digits_value_more, number_in, common_steps, nat_tests}
+use Rattle.asm_parse.proofs.Common.{◌≡◌, ℕ, zero, suc, ◌+◌, ◌*◌, ◌^◌, ◌<◌, ◌≤◌, List, [], ◌∷◌, length, get_or, take, Option, refl, arith, Decides, digit_value, is_digit, list_all, SomeIff, AllDigits, digits_value, lt-ltb, Decides-and, Decides-ltb, digits_value_more, radix_number, common_steps, nat_tests}
 use Rattle.std.proofs.lemmas.Str.Parse.{digits_value-take-le}
 
 -- each of the digits is one
@@ -28,5 +28,5 @@ digits_told : (radix : ℕ) (digits : List ℕ) → Decides (list_all (λ byte. 
 digits_told radix [] = (λ _. tt, λ _. refl)
 digits_told radix (d ∷ digits) = grind (arith, nat_tests, Decides-and, Decides-ltb, digits_told radix digits)
 
-pub as_number : (radix : ℕ) (digits : List ℕ) (r : Option ℕ) → 0 < length digits → SomeIff r (AllDigits radix digits × (digits_value radix digits < 2 ^ 32)) (digits_value radix digits) → r ≡ number_in radix digits
+pub as_number : (radix : ℕ) (digits : List ℕ) (r : Option ℕ) → 0 < length digits → SomeIff r (AllDigits radix digits × (digits_value radix digits < 2 ^ 32)) (digits_value radix digits) → r ≡ radix_number radix digits
 as_number radix digits r some given = grind (arith, nat_tests, Decides-and, digits_told, Decides-ltb, lt-ltb)

@@ -1,5 +1,5 @@
 -- The statements of a text, as its lines are read one after the other.
-use Rattle.asm_parse.proofs.Common.{◌≡◌, ℕ, suc, ◌+◌, ◌≤◌, Bool, true, false, nat_lt, List, [], ◌∷◌, ◌++◌, length, Option, Some, None, Result, Ok, Err, refl, sym, ap, ◌∙◌, arith, append_assoc, append-nil, length-append, length-drop, slice_split, position_or_len, before_first, lt-ltb, nat_tests, Statement, line_of, Gains, is_feed, lines_of, statements_from, then_statements}
+use Rattle.asm_parse.proofs.Common.{◌≡◌, ℕ, suc, ◌+◌, ◌≤◌, Bool, true, false, nat_lt, List, [], ◌∷◌, ◌++◌, length, Option, Some, None, Result, Ok, Err, refl, sym, ap, ◌∙◌, arith, append_assoc, append-nil, length-append, length-drop, slice_split, position_or_len, before_first, lt-ltb, nat_tests, Statement, line_meaning, Gains, is_feed, text_lines, statements_from, then_statements}
 use Rattle.asm_parse.specs.Cut.{behind_first}
 
 -- the parts of what stands behind a cut, if there was one
@@ -38,22 +38,22 @@ gained : (read more : List Statement) (number : ℕ) (answer : Result (Option St
 gained read more number answer others new = grind (arith, nat_tests, append_assoc)
 
 -- the statements of a text by its first line
-by_first : (number : ℕ) (text : List ℕ) → statements_from number (lines_of text) ≡ then_statements number (line_of number (before_first is_feed text)) (statements_from (number + 1) (parts_behind is_feed (behind_first is_feed text)))
+by_first : (number : ℕ) (text : List ℕ) → statements_from number (text_lines text) ≡ then_statements number (line_meaning number (before_first is_feed text)) (statements_from (number + 1) (parts_behind is_feed (behind_first is_feed text)))
 unfolding statements_from
 by_first number text = rw (cut is_feed text) refl
 
 -- one line more was read
-pub line_read : (read more : List Statement) (number : ℕ) (text line : List ℕ) (behind : Option (List ℕ)) (whole : Result (List Statement) (ℕ × ℕ)) → line ≡ before_first is_feed text → behind ≡ behind_first is_feed text → Gains read more (line_of number line) → statements_behind read (statements_from number (lines_of text)) ≡ whole → statements_behind more (statements_from (number + 1) (parts_behind is_feed behind)) ≡ whole
+pub line_read : (read more : List Statement) (number : ℕ) (text line : List ℕ) (behind : Option (List ℕ)) (whole : Result (List Statement) (ℕ × ℕ)) → line ≡ before_first is_feed text → behind ≡ behind_first is_feed text → Gains read more (line_meaning number line) → statements_behind read (statements_from number (text_lines text)) ≡ whole → statements_behind more (statements_from (number + 1) (parts_behind is_feed behind)) ≡ whole
 line_read read more number text line behind whole first rest new so_far =
-    rw (rest, gained read more number (line_of number line) _ new, first, ← by_first number text) so_far
+    rw (rest, gained read more number (line_meaning number line) _ new, first, ← by_first number text) so_far
 
 faulty : (read : List Statement) (number kind : ℕ) (answer : Result (Option Statement) ℕ) (others : Result (List Statement) (ℕ × ℕ)) → answer ≡ Err kind → statements_behind read (then_statements number answer others) ≡ Err (number, kind)
 faulty read number kind answer others is = rw is refl
 
 -- a line has a fault
-pub line_faulty : (read : List Statement) (number kind : ℕ) (text line : List ℕ) (whole : Result (List Statement) (ℕ × ℕ)) → line ≡ before_first is_feed text → line_of number line ≡ Err kind → statements_behind read (statements_from number (lines_of text)) ≡ whole → whole ≡ Err (number, kind)
+pub line_faulty : (read : List Statement) (number kind : ℕ) (text line : List ℕ) (whole : Result (List Statement) (ℕ × ℕ)) → line ≡ before_first is_feed text → line_meaning number line ≡ Err kind → statements_behind read (statements_from number (text_lines text)) ≡ whole → whole ≡ Err (number, kind)
 line_faulty read number kind text line whole first told so_far =
-    sym (rw (by_first number text) at so_far) ∙ faulty read number kind (line_of number (before_first is_feed text)) _ (rw first at told)
+    sym (rw (by_first number text) at so_far) ∙ faulty read number kind (line_meaning number (before_first is_feed text)) _ (rw first at told)
 
 -- all lines were read
 pub all_read : (read : List Statement) (number : ℕ) (behind : Option (List ℕ)) (whole : Result (List Statement) (ℕ × ℕ)) → behind ≡ None → statements_behind read (statements_from number (parts_behind is_feed behind)) ≡ whole → whole ≡ Ok read

@@ -1,5 +1,5 @@
 -- Runs of bytes that pass a test, and the tokens of a line, as they are found one after the other.
-use Rattle.asm_parse.proofs.Common.{◌≡◌, ℕ, zero, suc, ◌+◌, ◌≤◌, ◌≢◌, true, false, List, [], ◌∷◌, ◌++◌, length, take, drop, Option, Result, Ok, Err, refl, sym, ap, ◌∙◌, arith, append_assoc, append-nil, add-one, is_ascii_alphanumeric, is_ascii_digit, prefix_len, IsAscii, nat_tests, number_of, Token, Begin, begins, begins_word, before, continues_word, is_blank, more_of, number_begins, then_tokens, tokens_past, word_begins, Bool, list_all, take_while}
+use Rattle.asm_parse.proofs.Common.{◌≡◌, ℕ, zero, suc, ◌+◌, ◌≤◌, ◌≢◌, true, false, List, [], ◌∷◌, ◌++◌, length, take, drop, Option, Result, Ok, Err, refl, sym, ap, ◌∙◌, arith, append_assoc, append-nil, add-one, is_ascii_alphanumeric, is_ascii_digit, prefix_len, IsAscii, nat_tests, literal_number, Token, Begin, begin_at, begins_word, token_before, continues_word, is_blank, more_of, number_begins, then_tokens, tokens_past, word_begins, Bool, list_all, take_while}
 use Rattle.std.proofs.lemmas.Str.Ascii.{IsAscii-nil, IsAscii-cons}
 use Rattle.std.proofs.lemmas.List.Sums.{take_while-cons}
 
@@ -32,7 +32,7 @@ behind found (Err kind) = Err kind
 pub behind_none : (others : Result (List Token) ℕ) → behind [] others ≡ others
 behind_none others = grind (arith, nat_tests)
 
-pub behind_one : (found : List Token) (token : Token) (others : Result (List Token) ℕ) → behind (found ++ token ∷ []) others ≡ behind found (before token others)
+pub behind_one : (found : List Token) (token : Token) (others : Result (List Token) ℕ) → behind (found ++ token ∷ []) others ≡ behind found (token_before token others)
 behind_one found token others = grind (arith, nat_tests, append_assoc)
 
 -- what is passed over is left out
@@ -43,16 +43,16 @@ passed [] (suc n) = refl
 passed (byte ∷ rest) (suc n) = passed rest n
 
 -- the tokens from a byte on are what begins there and the tokens behind it
-pub from_byte : (byte : ℕ) (rest : List ℕ) → tokens_past (byte ∷ rest) 0 ≡ then_tokens (begins byte rest) (tokens_past (drop (more_of (begins byte rest)) rest) 0)
+pub from_byte : (byte : ℕ) (rest : List ℕ) → tokens_past (byte ∷ rest) 0 ≡ then_tokens (begin_at byte rest) (tokens_past (drop (more_of (begin_at byte rest)) rest) 0)
 unfolding tokens_past
-from_byte byte rest = ap (then_tokens (begins byte rest)) (passed rest (more_of (begins byte rest)))
+from_byte byte rest = ap (then_tokens (begin_at byte rest)) (passed rest (more_of (begin_at byte rest)))
 
 pub from_none : tokens_past [] 0 ≡ Ok []
 unfolding tokens_past
 from_none = refl
 
 -- what was found and the tokens from a byte on, by what begins there
-pub step : (found : List Token) (left rest : List ℕ) (first : ℕ) (begin : Begin) (whole : Result (List Token) ℕ) → left ≡ first ∷ rest → begin ≡ begins first rest → behind found (tokens_past left 0) ≡ whole → behind found (then_tokens begin (tokens_past (drop (more_of begin) rest) 0)) ≡ whole
+pub step : (found : List Token) (left rest : List ℕ) (first : ℕ) (begin : Begin) (whole : Result (List Token) ℕ) → left ≡ first ∷ rest → begin ≡ begin_at first rest → behind found (tokens_past left 0) ≡ whole → behind found (then_tokens begin (tokens_past (drop (more_of begin) rest) 0)) ≡ whole
 step found left rest first begin whole split is so_far = rw (is, ← from_byte first rest, ← split) so_far
 
 tail_ascii : (rest : List ℕ) → IsAscii (take (prefix_len continues_word rest) rest)
@@ -68,7 +68,7 @@ front left rest first more split = rw (split, add-one) refl
 
 -- a word is of bytes below 128
 pub word_ascii : (left rest : List ℕ) (first more : ℕ) → left ≡ first ∷ rest → begins_word first ≡ true → more ≡ prefix_len continues_word rest → IsAscii (take (more + 1) left)
-word_ascii left rest first more split begins is = grind (arith, nat_tests, front, IsAscii-cons, tail_ascii)
+word_ascii left rest first more split begin_at is = grind (arith, nat_tests, front, IsAscii-cons, tail_ascii)
 
 -- how far what begins reaches
 pub word_inside : (more n : ℕ) (bytes : List ℕ) → more ≤ n → more_of (word_begins more bytes) ≤ n
@@ -78,12 +78,12 @@ pub number_inside : (more n : ℕ) (o : Option ℕ) → more ≤ n → more_of (
 number_inside more n o h = grind (arith, nat_tests)
 
 -- what begins where a word does, and where a number does
-pub begins_with_word : (left rest : List ℕ) (first more : ℕ) (begin : Begin) → left ≡ first ∷ rest → false ≡ is_blank first → first ≢ 59 → true ≡ begins_word first → more ≡ prefix_len continues_word rest → begin ≡ word_begins more (take (more + 1) left) → begin ≡ begins first rest
+pub begins_with_word : (left rest : List ℕ) (first more : ℕ) (begin : Begin) → left ≡ first ∷ rest → false ≡ is_blank first → first ≢ 59 → true ≡ begins_word first → more ≡ prefix_len continues_word rest → begin ≡ word_begins more (take (more + 1) left) → begin ≡ begin_at first rest
 begins_with_word left rest first more begin split blank comment word is made =
     let text = front left rest first more split in
     grind (arith, nat_tests, blank, comment, word, is, made, text)
 
-pub begins_with_digit : (left rest : List ℕ) (first more : ℕ) (begin : Begin) → left ≡ first ∷ rest → false ≡ is_blank first → first ≢ 59 → false ≡ begins_word first → true ≡ is_ascii_digit first → more ≡ prefix_len is_ascii_alphanumeric rest → begin ≡ number_begins more (number_of (take (more + 1) left)) → begin ≡ begins first rest
+pub begins_with_digit : (left rest : List ℕ) (first more : ℕ) (begin : Begin) → left ≡ first ∷ rest → false ≡ is_blank first → first ≢ 59 → false ≡ begins_word first → true ≡ is_ascii_digit first → more ≡ prefix_len is_ascii_alphanumeric rest → begin ≡ number_begins more (literal_number (take (more + 1) left)) → begin ≡ begin_at first rest
 begins_with_digit left rest first more begin split blank comment word digit is made =
     let text = front left rest first more split in
     grind (arith, nat_tests, blank, comment, word, digit, is, made, text)

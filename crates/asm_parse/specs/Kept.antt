@@ -15,14 +15,14 @@ stated_by wholes (Bare line label) = record { line = line; label = Some label; b
 stated_by wholes (Whole place) = slice_index_or wholes place (record { line = 0; label = None; body = Nothing })
 
 -- a head's statement is one of so many that are kept whole, or needs none
-abbrev pub IsKept : ℕ → Head → Type 0
-IsKept count (Bare line label) = Unit {0}
-IsKept count (Whole place) = place < count
+abbrev pub IsHeadKept : ℕ → Head → Type 0
+IsHeadKept count (Bare line label) = Unit {0}
+IsHeadKept count (Whole place) = place < count
 
 -- nothing is nothing, each head has its statement, and there are no more whole statements than heads
-pub record AreKept (nothing : Body) (wholes : List Statement) (heads : List Head) : Type 0 where
+pub record AreHeadsKept (nothing : Body) (wholes : List Statement) (heads : List Head) : Type 0 where
   pub nothing_said : nothing ≡ Nothing
-  pub each : AllByRecursion (IsKept (length wholes)) heads
+  pub each : AllByRecursion (IsHeadKept (length wholes)) heads
   pub few : length wholes ≤ length heads
 
 -- the statement that these are the parts of

@@ -41,21 +41,21 @@ expression_of (token.Word word ∷ token.Minus ∷ token.Number number ∷ []) =
 expression_of _ = None
 
 -- the register between `(` and `)`
-abbrev pub base_of : List Token → Option ℕ
-base_of (token.Open ∷ token.Word word ∷ token.Close ∷ []) = place_among register_names word
-base_of _ = None
+abbrev pub base_register : List Token → Option ℕ
+base_register (token.Open ∷ token.Word word ∷ token.Close ∷ []) = place_among register_names word
+base_register _ = None
 
 -- a displacement, and in the last three tokens the register that it is counted from
-abbrev pub place_of : List Token → Option Operand
-place_of tokens =
-    option_and_then (λ displacement. option_map (operand.Place displacement) (base_of (drop (length tokens - 3) tokens))) (expression_of (take (length tokens - 3) tokens))
+abbrev pub displacement_of : List Token → Option Operand
+displacement_of tokens =
+    option_and_then (λ displacement. option_map (operand.Place displacement) (base_register (drop (length tokens - 3) tokens))) (expression_of (take (length tokens - 3) tokens))
 
 -- the operand of a sort that tokens are
 abbrev pub operand_of : Sort → List Token → Option Operand
 operand_of sort.Register tokens = option_map operand.Register (named_among register_names tokens)
 operand_of sort.Condition tokens = option_map operand.Condition (named_among condition_names tokens)
 operand_of sort.Value tokens = option_map operand.Value (expression_of tokens)
-operand_of sort.Place tokens = place_of tokens
+operand_of sort.Place tokens = displacement_of tokens
 
 -- whether a token is a comma
 abbrev pub is_comma : Token → Bool

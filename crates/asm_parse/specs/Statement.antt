@@ -49,13 +49,13 @@ export_of (token.Word word ∷ []) = Some (Export word)
 export_of _ = None
 
 -- whether a window is also to write: `r` or `rw`
-abbrev pub access_of : List ℕ → Option Bool
-access_of word = if bytes_eq word (codes "r") then Some false else if bytes_eq word (codes "rw") then Some true else None
+abbrev pub window_writes : List ℕ → Option Bool
+window_writes word = if bytes_eq word (codes "r") then Some false else if bytes_eq word (codes "rw") then Some true else None
 
 -- a register's number, a segment's number and the access, with commas between them
 abbrev pub window_of : List Token → Option Body
 window_of (token.Number register ∷ token.Comma ∷ token.Number segment ∷ token.Comma ∷ token.Word word ∷ []) =
-    option_map (Window register segment) (access_of word)
+    option_map (Window register segment) (window_writes word)
 window_of _ = None
 
 -- a statement that is no instruction, by its word; any other word is kind 2
@@ -96,5 +96,5 @@ statement_by number (Ok found) = statement_of number found
 statement_by number (Err kind) = Err kind
 
 -- what a line means, by its number and its bytes: no statement, a statement, or the kind of its fault, 1 to 4
-abbrev pub line_of : ℕ → List ℕ → Result (Option Statement) ℕ
-line_of number line = statement_by number (tokens line)
+abbrev pub line_meaning : ℕ → List ℕ → Result (Option Statement) ℕ
+line_meaning number line = statement_by number (tokens line)

@@ -2,7 +2,7 @@
 use Rattle.std.specs.Prelude.{ℕ, zero, suc, nat_le, ◌==◌, ◌||◌, if◌then◌else◌, Bool, List, [], ◌∷◌, length, take_while, Option, Some, None, Result, Ok, Err}
 use Rattle.std.specs.List.{prefix_len}
 use Rattle.std.specs.Char.{is_ascii_alphabetic, is_ascii_alphanumeric, is_ascii_digit}
-use Rattle.asm_parse.specs.Number.{number_of}
+use Rattle.asm_parse.specs.Number.{literal_number}
 use Rattle.asm_parse.specs.declared.token.Token.{Token}
 use Rattle.asm_parse.specs.declared.token.Token.TheVariants.{Word, Number, Comma, Open, Close, Colon, Plus, Minus}
 use Rattle.asm_parse.specs.declared.token.Begin.{Begin}
@@ -41,13 +41,13 @@ mark_begins byte =
     else Bad 1
 
 -- what begins at a byte that others follow; `;` begins a comment
-abbrev pub begins : ℕ → List ℕ → Begin
-begins byte rest =
+abbrev pub begin_at : ℕ → List ℕ → Begin
+begin_at byte rest =
     if is_blank byte then Blank
     else if byte == 59 then Comment
     else if begins_word byte then word_begins (prefix_len continues_word rest) (byte ∷ take_while continues_word rest)
     else if is_ascii_digit byte
-    then number_begins (prefix_len is_ascii_alphanumeric rest) (number_of (byte ∷ take_while is_ascii_alphanumeric rest))
+    then number_begins (prefix_len is_ascii_alphanumeric rest) (literal_number (byte ∷ take_while is_ascii_alphanumeric rest))
     else mark_begins byte
 
 -- how many bytes behind the first belong to what begins
@@ -58,22 +58,22 @@ more_of (Takes token more) = more
 more_of (Bad kind) = 0
 
 -- a token before others
-abbrev pub before : Token → Result (List Token) ℕ → Result (List Token) ℕ
-before token (Ok tokens) = Ok (token ∷ tokens)
-before token (Err kind) = Err kind
+abbrev pub token_before : Token → Result (List Token) ℕ → Result (List Token) ℕ
+token_before token (Ok tokens) = Ok (token ∷ tokens)
+token_before token (Err kind) = Err kind
 
 -- what begins, and the tokens behind it
 abbrev pub then_tokens : Begin → Result (List Token) ℕ → Result (List Token) ℕ
 then_tokens Blank others = others
 then_tokens Comment others = Ok []
-then_tokens (Takes token more) others = before token others
+then_tokens (Takes token more) others = token_before token others
 then_tokens (Bad kind) others = Err kind
 
 -- the tokens behind the first so many bytes, or the kind of the first token that is bad
 unfoldable pub tokens_past : List ℕ → ℕ → Result (List Token) ℕ
 tokens_past [] passed = Ok []
 tokens_past (byte ∷ rest) (suc passed) = tokens_past rest passed
-tokens_past (byte ∷ rest) zero = then_tokens (begins byte rest) (tokens_past rest (more_of (begins byte rest)))
+tokens_past (byte ∷ rest) zero = then_tokens (begin_at byte rest) (tokens_past rest (more_of (begin_at byte rest)))
 
 -- the tokens of a line, or the kind of the first that is bad
 abbrev pub tokens : List ℕ → Result (List Token) ℕ

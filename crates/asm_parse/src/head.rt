@@ -1,8 +1,8 @@
 ghost use Rattle.std.specs.Prelude.{◌≡◌};
 ghost use Rattle.asm_parse.specs.Kept.{stated};
 
+use super::source_word::Word;
 use super::statement::{Body, Statement};
-use super::word::Word;
 
 /// A statement as it is kept.
 #[derive(Drop)]

@@ -1,13 +1,13 @@
 ghost use Rattle.std.specs.Prelude.{◌≡◌, ℕ, ◌<◌, ◌≤◌, ◌^◌, length};
 ghost use Rattle.std.specs.Option.{SomeIff};
 ghost use Rattle.std.specs.Str.Parse.{AllDigits, digits_value};
-ghost use Rattle.asm_parse.specs.Number.{number_in, number_of};
+ghost use Rattle.asm_parse.specs.Number.{radix_number, literal_number};
 
 /// The number that a run of letters and digits writes, if it is one of at most 32 bits.
 ///
 /// It is decimal, or `0x` and hexadecimal digits of either case.
 pub(crate) fn number_of(run: &[u8]) -> Option<u32>
-    ensures { result ≡ number_of run.now }
+    ensures { result ≡ literal_number run.now }
 {
     match run.strip_prefix(b"0x") {
         Some(digits) => number_in(digits, 16),
@@ -19,7 +19,7 @@ pub(crate) fn number_of(run: &[u8]) -> Option<u32>
 #[tactic(auto, using(crate::proofs::NumberLemmas::as_number))]
 fn number_in(digits: &[u8], radix: u32) -> Option<u32>
     requires { (2 ≤ radix) × (radix ≤ 36) }
-    ensures { result ≡ number_in radix digits.now }
+    ensures { result ≡ radix_number radix digits.now }
 {
     if digits.is_empty() {
         return None;

@@ -3,7 +3,7 @@ ghost use Rattle.std.specs.List.{before_first};
 ghost use Rattle.std.specs.Option.{option_map};
 ghost use Rattle.std.specs.Str.{bytes_eq};
 ghost use Rattle.asm_parse.specs.Cut.{behind_first};
-ghost use Rattle.asm_parse.specs.Operand.{base_of, condition_names, expression_of, is_comma, named_among, operand_of, operands_of, place_among, place_of, register_names};
+ghost use Rattle.asm_parse.specs.Operand.{base_register, condition_names, expression_of, is_comma, named_among, operand_of, operands_of, place_among, displacement_of, register_names};
 
 use super::form::Sort;
 use super::statement::{Expr, Operand};
@@ -151,7 +151,7 @@ pub(crate) fn expression_of(tokens: &[Token]) -> Option<Expr>
 
 /// The place that tokens are: a displacement, and a register in the last three.
 fn place_of(tokens: &[Token]) -> Option<Operand>
-    ensures { result ≡ place_of tokens.now }
+    ensures { result ≡ displacement_of tokens.now }
 {
     let (displacement, base) = tokens.split_at(tokens.len().saturating_sub(3));
     let displacement = expression_of(displacement)?;
@@ -160,7 +160,7 @@ fn place_of(tokens: &[Token]) -> Option<Operand>
 
 /// The register between `(` and `)`.
 fn base_of(tokens: &[Token]) -> Option<u8>
-    ensures { result ≡ base_of tokens.now }
+    ensures { result ≡ base_register tokens.now }
 {
     match tokens {
         [Token::Open, Token::Word(word), Token::Close] => register_named(word.as_bytes()),

@@ -1,4 +1,4 @@
-use super::word::Word;
+use super::source_word::Word;
 use arrayvec::ArrayVec;
 use romp_table::Op;
 

@@ -4,12 +4,12 @@ ghost use Rattle.asm_parse.specs.Statement.{body_of, on_line, statement_of};
 ghost use Rattle.asm_parse.specs.Text.{Adds};
 ghost use Rattle.asm_parse.specs.declared.statement.Body.TheVariants.{Nothing};
 
-use super::fault::LineFault;
+use super::asm_fault::LineFault;
 use super::head::{Head, Part};
-use super::line::{push_body, split_label};
+use super::parsing::{push_body, split_label};
+use super::source_word::Word;
 use super::statement::{Body, Statement};
 use super::token::Token;
-use super::word::Word;
 use std::alloc::Global;
 use std::marker::Model;
 
@@ -25,13 +25,13 @@ pub struct Statements {
 impl Model for Statements {
     ghost use Rattle.std.specs.Prelude.{List, map};
     ghost use Rattle.asm_parse.specs.declared.statement.Statement.{Statement as Stated};
-    ghost use Rattle.asm_parse.specs.Kept.{AreKept, stated_by};
+    ghost use Rattle.asm_parse.specs.Kept.{AreHeadsKept, stated_by};
 
     ghost Value = { List Stated };
 
     ghost view = { λ kept. map (stated_by kept.wholes.items) kept.heads.items };
 
-    ghost invariant = { λ kept. AreKept kept.nothing kept.wholes.items kept.heads.items };
+    ghost invariant = { λ kept. AreHeadsKept kept.nothing kept.wholes.items kept.heads.items };
 }
 
 impl Statements {

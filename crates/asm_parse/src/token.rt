@@ -2,13 +2,13 @@ ghost use Rattle.std.specs.Prelude.{◌≡◌, ◌+◌, ◌<◌, ◌≤◌, ◌�
 ghost use Rattle.std.specs.Char.{is_ascii_alphanumeric};
 ghost use Rattle.std.specs.List.{prefix_len};
 ghost use Rattle.std.specs.Str.{IsAscii};
-ghost use Rattle.asm_parse.specs.Number.{number_of};
-ghost use Rattle.asm_parse.specs.Token.{begins, begins_word, continues_word, is_blank, mark_begins, more_of, number_begins, tokens, word_begins};
+ghost use Rattle.asm_parse.specs.Number.{literal_number};
+ghost use Rattle.asm_parse.specs.Token.{begin_at, begins_word, continues_word, is_blank, mark_begins, more_of, number_begins, tokens, word_begins};
 ghost use Rattle.asm_parse.specs.Answers.{Answers};
 
-use super::fault::LineFault;
+use super::asm_fault::LineFault;
 use super::numbers::number_of;
-use super::word::Word;
+use super::source_word::Word;
 
 /// What a line is made of (docs/FORMATS.md, "Assembler").
 #[derive(Drop)]
@@ -71,7 +71,7 @@ pub fn tokens_into(found: &mut Vec<Token>, line: &[u8]) -> Result<(), LineFault>
 /// What begins at the first byte of what is left of a line.
 fn begin_of(left: &[u8], first: u8, rest: &[u8]) -> Begin
     requires { left.now ≡ first ∷ rest.now }
-    ensures value { result ≡ begins first rest.now }
+    ensures value { result ≡ begin_at first rest.now }
     ensures inside { more_of result ≤ length rest.now }
 {
     if is_blank(first) {
@@ -104,7 +104,7 @@ fn word_begins(left: &[u8], more: usize) -> Begin
 /// A number that has so many bytes after the first.
 fn number_begins(left: &[u8], more: usize) -> Begin
     requires { more < length left.now }
-    ensures { result ≡ number_begins more (number_of (take (more + 1) left.now)) }
+    ensures { result ≡ number_begins more (literal_number (take (more + 1) left.now)) }
 {
     match number_of(&left[..=more]) {
         Some(number) => Begin::Takes(Token::Number(number), more),

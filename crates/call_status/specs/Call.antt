@@ -11,7 +11,7 @@ pub record Given : Type 0 where
   pub faults_now : ℕ
 
 -- how a call ended: the disk and the screen at its start and now, the commits that it answers, in order, and its status
-pub record Call (W : Type 0) : Type 0 where
+pub record Called (W : Type 0) : Type 0 where
   pub before : W
   pub after : W
   pub order : List (ℕ × ℕ)
@@ -22,5 +22,5 @@ abbrev pub given : {S : Type 0} → source.Ghosts S → S → S → Given
 given S before now = record { left = S.left before; left_now = S.left now; faults = S.faults before; faults_now = S.faults now }
 
 -- a call that found this and left that, with these commits and this status
-abbrev pub call : {W : Type 0} → W → W → List (ℕ × ℕ) → Status → Call W
+abbrev pub call : {W : Type 0} → W → W → List (ℕ × ℕ) → Status → Called W
 call before after order status = record { before = before; after = after; order = order; status = status }

@@ -4,7 +4,7 @@ use Rattle.outside.specs.Causes.{Rose}
 use Rattle.outside.specs.declared.source.Source as source
 use Rattle.outside.specs.declared.world.Outside.{Ghosts}
 use Rattle.call_status.specs.declared.status.Status.{Status}
-use Rattle.call_status.specs.Call.{Call, Given, call, given}
+use Rattle.call_status.specs.Call.{Called, Given, call, given}
 
 -- a disk or a screen that failed is told only where its count rose in the call, and a call that is done left the screen's count
 pub record FaultsBy {W : Type 0} (G : Ghosts W) (before now : W) (status : Status) : Type 0 where
@@ -18,13 +18,13 @@ pub record ReadFaultsBy {W : Type 0} (G : Ghosts W) (given : Given) (before now 
   pub outside : FaultsBy G before now status
 
 -- a room's call did this, has no order, ends with one of these statuses, and tells of the faults in it
-pub record RoomEnds {W : Type 0} (G : Ghosts W) (Did : Call W → Type 0) (IsOne : Status → Type 0) (before now : W) (status : Status) : Type 0 where
+pub record RoomEnds {W : Type 0} (G : Ghosts W) (Did : Called W → Type 0) (IsOne : Status → Type 0) (before now : W) (status : Status) : Type 0 where
   pub did : Did (call before now [] status)
   pub only : IsOne status
   pub faults : FaultsBy G before now status
 
 -- the same of one that reads a source
-pub record RoomReads {S W : Type 0} (F : source.Ghosts S) (G : Ghosts W) (Did : Given → Call W → Type 0) (IsOne : Status → Type 0) (old new : S) (before now : W) (status : Status) : Type 0 where
+pub record RoomReads {S W : Type 0} (F : source.Ghosts S) (G : Ghosts W) (Did : Given → Called W → Type 0) (IsOne : Status → Type 0) (old new : S) (before now : W) (status : Status) : Type 0 where
   pub did : Did (given F old new) (call before now [] status)
   pub only : IsOne status
   pub faults : ReadFaultsBy G (given F old new) before now status

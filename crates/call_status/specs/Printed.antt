@@ -6,10 +6,17 @@ use Rattle.outside.specs.Bytes.{Prints}
 use Rattle.call_status.specs.declared.status.Status.{Status}
 use Rattle.call_status.specs.declared.status.Status.TheVariants as status
 
+-- puts that went well, and one that failed
+abbrev pub well : Result (Unit {0}) Failed
+well = Ok tt
+
+abbrev pub broken : Result (Unit {0}) Failed
+broken = Err (record {})
+
 -- how the puts went, by the status
 abbrev pub put_of : Status → Result (Unit {0}) Failed
-put_of status.PutFault = Err (record {})
-put_of _ = Ok tt
+put_of status.PutFault = broken
+put_of _ = well
 
 -- how bytes were printed, by the status: all of them, or a prefix
 abbrev pub PrintsBy : Option (List ℕ) → Option (List ℕ) → List ℕ → Status → Type 0

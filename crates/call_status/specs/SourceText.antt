@@ -11,8 +11,8 @@ pub record IsAll (most : ℕ) (before now : Option (List ℕ)) (text : List ℕ)
   pub none : IsAtEnd now
 
 -- the text of a job: at most 1,048,576 bytes
-abbrev pub IsWhole : Option (List ℕ) → Option (List ℕ) → List ℕ → Type 0
-IsWhole = IsAll 1048576
+abbrev pub IsWholeText : Option (List ℕ) → Option (List ℕ) → List ℕ → Type 0
+IsWholeText = IsAll 1048576
 
 -- the text of a bundle: at most 33,554,432 bytes
 abbrev pub IsWholeBundle : Option (List ℕ) → Option (List ℕ) → List ℕ → Type 0

@@ -1,7 +1,7 @@
 -- How a call ends, what a fault below makes of it, and how the program tells it.
 use Rattle.std.specs.Prelude.{ℕ, List, [], ◌++◌, codes, decimal, Result, Ok, Err}
-use Rattle.store.specs.declared.fault.OpenFault.{OpenFault}
-use Rattle.store.specs.declared.fault.OpenFault.TheVariants as open_fault
+use Rattle.store.specs.declared.open_fault.OpenFault.{OpenFault}
+use Rattle.store.specs.declared.open_fault.OpenFault.TheVariants as open_fault
 use Rattle.job_text.specs.declared.job.JobFault.{JobFault}
 use Rattle.job_text.specs.declared.job.JobFault.TheVariants as job_fault
 use Rattle.call_status.specs.declared.source_text.TextFault.{TextFault}
@@ -28,42 +28,42 @@ status_of_open open_fault.DiskFault = Status.DiskFault
 status_of_open open_fault.Memory = Status.NoMemory
 
 -- the number with which the program ends
-abbrev pub number_of : Status → ℕ
-number_of status.Done = 0
-number_of status.Usage = 1
-number_of (status.Store offset) = 2
-number_of (status.Job line kind) = 3
-number_of status.SourceFault = 4
-number_of status.DiskFault = 5
-number_of status.PutFault = 6
-number_of status.NoMemory = 7
-number_of status.TooBig = 8
-number_of status.Exists = 9
-number_of status.NoRange = 10
-number_of (status.Bundle part at) = 11
-number_of (status.NotKept base number) = 12
-number_of (status.Stream place kind) = 13
-number_of status.NoCommit = 14
-number_of (status.NotSerial place) = 15
+abbrev pub status_number : Status → ℕ
+status_number status.Done = 0
+status_number status.Usage = 1
+status_number (status.Store offset) = 2
+status_number (status.Job line kind) = 3
+status_number status.SourceFault = 4
+status_number status.DiskFault = 5
+status_number status.PutFault = 6
+status_number status.NoMemory = 7
+status_number status.TooBig = 8
+status_number status.Exists = 9
+status_number status.NoRange = 10
+status_number (status.Bundle part at) = 11
+status_number (status.NotKept base number) = 12
+status_number (status.Stream place kind) = 13
+status_number status.NoCommit = 14
+status_number (status.NotSerial place) = 15
 
 -- the text that it prints on standard error; none where all is done
-abbrev pub text_of : Status → List ℕ
-text_of status.Done = []
-text_of status.Usage = codes "usage"
-text_of (status.Store offset) = codes "store " ++ decimal offset
-text_of (status.Job line kind) = (codes "job " ++ decimal line) ++ (codes " " ++ decimal kind)
-text_of status.SourceFault = codes "source"
-text_of status.DiskFault = codes "disk"
-text_of status.PutFault = codes "screen"
-text_of status.NoMemory = codes "memory"
-text_of status.TooBig = codes "big"
-text_of status.Exists = codes "exists"
-text_of status.NoRange = codes "range"
-text_of (status.Bundle part at) = (codes "bundle " ++ decimal part) ++ (codes " " ++ decimal at)
-text_of (status.NotKept base number) = (codes "kept " ++ decimal base) ++ (codes " " ++ decimal number)
-text_of (status.Stream place kind) = (codes "stream " ++ decimal place) ++ (codes " " ++ decimal kind)
-text_of status.NoCommit = codes "commit"
-text_of (status.NotSerial place) = codes "serial " ++ decimal place
+abbrev pub error_text : Status → List ℕ
+error_text status.Done = []
+error_text status.Usage = codes "usage"
+error_text (status.Store offset) = codes "store " ++ decimal offset
+error_text (status.Job line kind) = (codes "job " ++ decimal line) ++ (codes " " ++ decimal kind)
+error_text status.SourceFault = codes "source"
+error_text status.DiskFault = codes "disk"
+error_text status.PutFault = codes "screen"
+error_text status.NoMemory = codes "memory"
+error_text status.TooBig = codes "big"
+error_text status.Exists = codes "exists"
+error_text status.NoRange = codes "range"
+error_text (status.Bundle part at) = (codes "bundle " ++ decimal part) ++ (codes " " ++ decimal at)
+error_text (status.NotKept base number) = (codes "kept " ++ decimal base) ++ (codes " " ++ decimal number)
+error_text (status.Stream place kind) = (codes "stream " ++ decimal place) ++ (codes " " ++ decimal kind)
+error_text status.NoCommit = codes "commit"
+error_text (status.NotSerial place) = codes "serial " ++ decimal place
 
 -- the status of a command that went to its end, or didn't
 abbrev pub status_of : {T : Type 0} → Result T Status → Status

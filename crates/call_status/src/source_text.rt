@@ -1,4 +1,4 @@
-// The bytes of a job or of a bundle, whole from their source.
+// The bytes of a job, a bundle, a ship text or a store, whole from their source.
 ghost use Rattle.std.specs.Prelude.{◌≡◌, ◌≢◌, ◌≤◌, ◌<◌, ◌^◌, List, ℕ, Option, MatchResult, IfErr, OnOk};
 ghost use Rattle.outside.specs.Causes.{Rose};
 ghost use Rattle.call_status.specs.declared.source_text.TextFault.TheVariants.{Memory as memory_fault, Source as source_fault};

@@ -1,7 +1,7 @@
 // How a call ends.
 ghost use Rattle.std.specs.Prelude.{◌≡◌, ◌+◌, ◌≤◌, ◌++◌, length, decimal};
 ghost use Rattle.call_status.specs.declared.status.Status.TheVariants.{NoMemory};
-ghost use Rattle.call_status.specs.Statuses.{status_of_job, status_of_text, status_of_open, number_of, text_of};
+ghost use Rattle.call_status.specs.Statuses.{status_of_job, status_of_text, status_of_open, status_number, error_text};
 
 use super::source_text::TextFault;
 use arrayvec::ArrayString;
@@ -52,7 +52,7 @@ pub enum Status {
 impl Status {
     /// The number with which the program ends (docs/FORMATS.md, "Statuses").
     pub fn number(&self) -> u8
-        ensures value { result ≡ number_of self.now }
+        ensures value { result ≡ status_number self.now }
     {
         match self {
             Status::Done => 0,
@@ -77,7 +77,7 @@ impl Status {
 
 /// The text of a status, which the program prints on standard error (docs/FORMATS.md, "Statuses").
 pub fn status_text(status: &Status) -> ArrayString<64>
-    ensures text { result.bytes ≡ text_of status.now }
+    ensures text { result.bytes ≡ error_text status.now }
 {
     let mut text = ArrayString::new();
     match status {

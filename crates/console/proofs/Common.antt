@@ -8,20 +8,20 @@ pub use Rattle.std.specs.Prelude.{All, Err, MatchOption, MatchResult, None, Ok, 
 pub use Rattle.std.specs.Str.Parse.{IsNumeral, ParsesUnsigned, digits_value, without_leading_plus}
 pub use Rattle.std.specs.declared.alloc.Global.{Global}
 pub use Rattle.store_calls.specs.Traced.{CanTrace, TracedFrom}
-pub use Rattle.call_status.specs.Call.{Call, Given, call, given}
+pub use Rattle.call_status.specs.Call.{Called, Given, call, given}
 pub use Rattle.call_status.specs.declared.status.Status.{Status}
 pub use Rattle.flat_machine.specs.declared.machine.Program.{Program}
 pub use Rattle.job_text.specs.Grammar.{content_of}
-pub use Rattle.lines.specs.Legal.{AreFlags, IsInRange, IsLegal}
+pub use Rattle.lines.specs.Legal.{AreFlags, IsInRange, AreSegmentsLegal}
 pub use Rattle.lines.specs.declared.line_geometry.PageSize.{PageSize}
 pub use Rattle.lines.specs.declared.line_geometry.PageSize.TheVariants.{Four, Two}
 pub use Rattle.listing.proofs.PutsLemmas.{done, puts_more, puts_no_more, times_on}
 pub use Rattle.listing.specs.Listing.{lines_in, listing_of}
-pub use Rattle.listing.specs.Puts.{Puts, PutsTimes}
+pub use Rattle.listing.specs.BytesPut.{PrintsBytes, PutsTimes}
 pub use Rattle.store_calls.specs.declared.show.Range.{Range}
 pub use Rattle.store_format.specs.Header.{Header, most_lines}
-pub use Rattle.console.specs.Words.{FindsOne, IsCommandAlone, IsCommandOn, IsNumberedForm, AreNumbers, AreWithin, IsAlone, IsForm, IsLong, IsNoForm, IsNumbered, IsOnStore, NamesStore, Says, SaysNumber, ends_marked, marked_of, new_word, number_of, number_said, numbers_of, plain, spread, word_of}
-pub use Rattle.console.specs.declared.words.Command.{Command}
+pub use Rattle.console.specs.Words.{FindsOne, IsCommandAlone, IsCommandOn, IsNumberedForm, AreNumbers, AreBounded, StandsAlone, IsForm, IsLong, IsNoForm, IsNumbered, IsOnStore, NamesStore, Says, SaysNumber, ends_marked, marked_of, new_word, argument_number, number_said, numbers_of, plain, spread, word_of}
+pub use Rattle.console.specs.declared.command_words.Command.{Command}
 pub use Rattle.job_calls.specs.declared.ended.Ended.{Ended}
 pub use Rattle.outside.specs.declared.world.Outside.{Ghosts}
 pub use Rattle.store_calls.specs.New.{Made}

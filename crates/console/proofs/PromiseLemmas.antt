@@ -5,16 +5,16 @@ use Rattle.call_status.proofs.TextLemmas.{read_whole, too_much}
 use Rattle.outside.specs.Causes.{Rose}
 use Rattle.outside.specs.Runs.{held_of}
 use Rattle.store_calls.specs.Renewed.{IsNotOne, IsOfRenew, Renewed}
-use Rattle.store.specs.KeptStore.{number_of}
+use Rattle.store.specs.KeptStore.{store_number}
 use Rattle.standby.specs.State.{IsFirstLong, due}
-use Rattle.standby.specs.Text.{Content, IsContent, ShipLine, text_of}
+use Rattle.standby.specs.Text.{ShipContent, IsContent, ShipLine, ship_text}
 use Rattle.standby.specs.FollowCalled.{FollowedBy, IsNoText, IsOfFollow, OnStore}
 use Rattle.standby.specs.ShipCalled.{IsOfShip, ShippedFrom}
 use Rattle.call_status.specs.Opening.{IsFaultAt, IsStanding}
 use Rattle.console.specs.Causes.{CanFollow, CanShip, HasAll, HasOldStore, IsComplete}
 use Rattle.call_status.specs.declared.status.Status.TheVariants as status
 use Rattle.console.proofs.WordLemmas.{one_from, one_header, same_number, same_words}
-use Rattle.console.specs.declared.words.Command.TheVariants as command
+use Rattle.console.specs.declared.command_words.Command.TheVariants as command
 
 -- words begin with that of their command
 begins : (form : Command) (words : List (List ℕ)) → Says form words → (rest : List (List ℕ)) × (words ≡ word_of form ∷ rest)
@@ -146,7 +146,7 @@ module _ {W : Type 0} (G : Ghosts W) (left : Option (List ℕ)) (outside : W) wh
           past : (length records ≤ place) × (slice_get records place ≡ None) → ⊥
           past (behind, none) = let given = first.there in cc
 
-      on_store : (held : Content) → IsContent held → can.text ≡ text_of held → (now : Status) → OnStore G held outside after now → IsOfFollow now → (now ≡ Status.DiskFault → ⊥) → (now ≡ Status.PutFault → ⊥) → (now ≡ Status.Done) ⊎ (now ≡ Status.NoMemory)
+      on_store : (held : ShipContent) → IsContent held → can.text ≡ ship_text held → (now : Status) → OnStore G held outside after now → IsOfFollow now → (now ≡ Status.DiskFault → ⊥) → (now ≡ Status.PutFault → ⊥) → (now ≡ Status.Done) ⊎ (now ≡ Status.NoMemory)
       on_store held is means status.Done did of disk put = inl refl
       on_store held is means status.NoMemory did of disk put = inr refl
       on_store held is means status.DiskFault did of disk put = absurd (disk refl)
@@ -154,7 +154,7 @@ module _ {W : Type 0} (G : Ghosts W) (left : Option (List ℕ)) (outside : W) wh
       on_store held is means (status.Store offset) did of disk put = absurd (no_fault offset can.stood (did can.told))
       on_store held is means (status.Stream place kind) did of disk put =
           let why = did.1 can.told in let (alike, among, few) = can.follows held is means why.store why.shows in
-          absurd (⊎_elim (λ other. other.2 alike) (λ long. none_long (most_lines why.store.header) long.3.0 (due held (number_of why.store)) few long.3.2) why.due_on)
+          absurd (⊎_elim (λ other. other.2 alike) (λ long. none_long (most_lines why.store.header) long.3.0 (due held (store_number why.store)) few long.3.2) why.due_on)
       on_store held is means (status.NotKept first last) did of disk put =
           let why = did can.told in
           let (alike, among, few) = can.follows held is means why.store why.shows in absurd (why.due_on.3 among)

@@ -1,13 +1,13 @@
 -- The words of a command line.
-use Rattle.console.proofs.Common.{FindsOne, IsCommandAlone, IsCommandOn, IsNumberedForm, Global, ParsesUnsigned, IsNumeral, digits_value, without_leading_plus, nat_tests, take_all, length-map, map-append, pow_pos, PageSize, Two, Four, AreFlags, Header, Command, AreNumbers, AreWithin, IsForm, IsLong, IsNoForm, IsOnStore, NamesStore, SaysNumber, ends_marked, marked_of, new_word, number_of, number_said, numbers_of, plain, spread, word_of, ◌≡◌, ◌≢◌, ℕ, zero, suc, ◌+◌, ◌-◌, ◌*◌, ◌/◌, ◌%◌, ◌^◌, ◌<◌, ◌≤◌, Bool, true, false, List, [], ◌∷◌, length, get_or, map, take, take-suc, drop, refl, sym, ◌∙◌, ap, subst, arith, Option, Some, None, Result, Ok, Err, MatchResult, MatchOption, String, string_bytes, slice_index, ◌==◌, ◌++◌, option_map, codes, OnOk, is_err}
+use Rattle.console.proofs.Common.{FindsOne, IsCommandAlone, IsCommandOn, IsNumberedForm, Global, ParsesUnsigned, IsNumeral, digits_value, without_leading_plus, nat_tests, take_all, length-map, map-append, pow_pos, PageSize, Two, Four, AreFlags, Header, Command, AreNumbers, AreBounded, IsForm, IsLong, IsNoForm, IsOnStore, NamesStore, SaysNumber, ends_marked, marked_of, new_word, argument_number, number_said, numbers_of, plain, spread, word_of, ◌≡◌, ◌≢◌, ℕ, zero, suc, ◌+◌, ◌-◌, ◌*◌, ◌/◌, ◌%◌, ◌^◌, ◌<◌, ◌≤◌, Bool, true, false, List, [], ◌∷◌, length, get_or, map, take, take-suc, drop, refl, sym, ◌∙◌, ap, subst, arith, Option, Some, None, Result, Ok, Err, MatchResult, MatchOption, String, string_bytes, slice_index, ◌==◌, ◌++◌, option_map, codes, OnOk, is_err}
 use Rattle.std.specs.Result.{OkIff}
 use Rattle.std.proofs.lemmas.Bool.{le-leb}
-use Rattle.asm_parse.specs.Number.{number_in}
+use Rattle.asm_parse.specs.Number.{radix_number}
 use Rattle.asm_parse.proofs.NumberLemmas.{as_number}
-use Rattle.console.specs.declared.words.Command.TheVariants as command
+use Rattle.console.specs.declared.command_words.Command.TheVariants as command
 
 -- a word of at most ten bytes
-short : (word : List ℕ) → length word ≤ 10 → number_of word ≡ number_in 10 word
+short : (word : List ℕ) → length word ≤ 10 → argument_number word ≡ radix_number 10 word
 short word few = rw (le-leb (length word) 10 few) refl
 
 same_none : (one two : ℕ) → one ≢ two → (one == two) ≡ false
@@ -15,16 +15,16 @@ same_none one two other = grind (arith, nat_tests)
 
 -- what `parse` answers for a word without a sign
 pub parsed : {E : Type 0} (word : List ℕ) (result : Result ℕ E) → 0 < length word → length word ≤ 10 → slice_index word 0 ≢ 43 → ParsesUnsigned 32 10 word result
-    → MatchResult result (λ number. Some number ≡ number_of word) (λ fault. None ≡ number_of word)
+    → MatchResult result (λ number. Some number ≡ argument_number word) (λ fault. None ≡ argument_number word)
 parsed {E} word result some few plain gives =
     let whole : without_leading_plus word ≡ word = rw (same_none (slice_index word 0) 43 plain) refl in
     answered result (subst (λ (digits : List ℕ). OkIff result (IsNumeral 10 digits × (digits_value 10 digits < 2 ^ 32)) (digits_value 10 digits)) whole gives)
   where
-    answered : (result : Result ℕ E) → OkIff result (IsNumeral 10 word × (digits_value 10 word < 2 ^ 32)) (digits_value 10 word) → MatchResult result (λ number. Some number ≡ number_of word) (λ fault. None ≡ number_of word)
+    answered : (result : Result ℕ E) → OkIff result (IsNumeral 10 word × (digits_value 10 word < 2 ^ 32)) (digits_value 10 word) → MatchResult result (λ number. Some number ≡ argument_number word) (λ fault. None ≡ argument_number word)
     answered (Ok number) is = as_number 10 word (Some number) some ((is.0.0.1, is.0.1), is.1) ∙ sym (short word few)
     answered (Err fault) is = as_number 10 word None some (λ told. is ((some, told.0), told.1)) ∙ sym (short word few)
 
-pub without_mark : (word : List ℕ) → ((front : List ℕ) → word ≢ front ++ 102 ∷ []) → marked_of word ≡ option_map (λ number. (number, false)) (number_of word)
+pub without_mark : (word : List ℕ) → ((front : List ℕ) → word ≢ front ++ 102 ∷ []) → marked_of word ≡ option_map (λ number. (number, false)) (argument_number word)
 without_mark word other = by_end (ends_marked word) refl
   where
     ended : (word : List ℕ) → ends_marked word ≡ true → word ≡ take (length word - 1) word ++ 102 ∷ []
@@ -35,7 +35,7 @@ without_mark word other = by_end (ends_marked word) refl
         sym (take_all (suc (length word)) (byte ∷ word) (omega arith)) ∙ take-suc (byte ∷ word) (length word) 0 (omega arith) ∙ ap (λ (n : ℕ). take (length word) (byte ∷ word) ++ n ∷ []) last
         ∙ ap (λ (n : ℕ). take n (byte ∷ word) ++ 102 ∷ []) same
 
-    by_end : (ends : Bool) → ends_marked word ≡ ends → marked_of word ≡ option_map (λ number. (number, false)) (number_of word)
+    by_end : (ends : Bool) → ends_marked word ≡ ends → marked_of word ≡ option_map (λ number. (number, false)) (argument_number word)
     by_end true is = absurd (other (take (length word - 1) word) (ended word is))
     by_end false is = rw is refl
 
@@ -157,7 +157,7 @@ with_store (first ∷ second ∷ rest) word store bytes numbers result two is th
       say = subst (λ (those : List (ℕ × Bool)). AreNumbers (map string_bytes rest) those) said_numbers these;
     }
 
-    unnamed : (form : Command) → ((form : Command) → IsCommandOn bytes numbers form → ⊥) → IsOnStore form → AreWithin form → NamesStore form (map string_bytes (first ∷ second ∷ rest)) → ⊥
+    unnamed : (form : Command) → ((form : Command) → IsCommandOn bytes numbers form → ⊥) → IsOnStore form → AreBounded form → NamesStore form (map string_bytes (first ∷ second ∷ rest)) → ⊥
     unnamed form none apart within names =
         let behind : names.numbers ≡ map string_bytes rest = let said = names.are in cc in
         let said : bytes ≡ word_of form = let said = names.are in cc in
@@ -215,7 +215,7 @@ pub same_number : (one two : Command) (words : List (List ℕ)) → SaysNumber o
 same_number one two words first second =
     let here = first.are in let there = second.are in
     let same : first.number ≡ second.number = cc in
-    same_some (number_said one) (number_said two) (sym first.say ∙ ap number_of same ∙ second.say)
+    same_some (number_said one) (number_said two) (sym first.say ∙ ap argument_number same ∙ second.say)
   where
     same_some : (one two : ℕ) → Some one ≡ Some two → one ≡ two
     same_some one two is = cc

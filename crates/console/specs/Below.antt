@@ -1,6 +1,6 @@
 -- The words of other crates that this crate's definitions and contracts speak with, each from its own place. Declares nothing.
 pub use Rattle.std.specs.declared.alloc.Global.{Global}
-pub use Rattle.call_status.specs.Call.{Call, Given, given}
+pub use Rattle.call_status.specs.Call.{Called, Given, given}
 pub use Rattle.call_status.specs.Faults.{ReadFaultsBy, RoomReads}
 pub use Rattle.call_status.specs.Reading.{IsSomeJob, ReadsBy}
 pub use Rattle.call_status.specs.Statuses.{IsOfLines}
@@ -8,8 +8,8 @@ pub use Rattle.call_status.specs.declared.status.Status.{Status}
 pub use Rattle.desk.specs.Answers.{order_told}
 pub use Rattle.job_calls.specs.Causes.{IsOfEvents, IsOfRun, OpensBy}
 pub use Rattle.job_text.specs.Grammar.{content_of, job_of}
-pub use Rattle.lines.specs.Legal.{AreFlags, IsInRange, IsLegal}
-pub use Rattle.listing.specs.Puts.{Puts, PutsTimes}
+pub use Rattle.lines.specs.Legal.{AreFlags, IsInRange, AreSegmentsLegal}
+pub use Rattle.listing.specs.BytesPut.{PrintsBytes, PutsTimes}
 pub use Rattle.outside.specs.declared.world.Outside.{Ghosts}
 pub use Rattle.standby.specs.FollowCalled.{FollowedFrom, IsOfFollow}
 pub use Rattle.standby.specs.ShipCalled.{IsOfShip, ShippedFrom}

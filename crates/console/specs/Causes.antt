@@ -5,14 +5,14 @@ use Rattle.console.specs.Below.{CanAudit, CanTrace, Ghosts, Given, Global, HasRa
 use Rattle.lines.specs.FlatStore.{FlatStore}
 use Rattle.store_format.specs.Stands.{Stands}
 use Rattle.outside.specs.Runs.{held_of}
-use Rattle.console.specs.declared.words.Command.{Command}
-use Rattle.console.specs.declared.words.Command.TheVariants as command
+use Rattle.console.specs.declared.command_words.Command.{Command}
+use Rattle.console.specs.declared.command_words.Command.TheVariants as command
 use Rattle.call_status.specs.Opening.{IsStanding}
-use Rattle.store.specs.KeptStore.{KeptStore, number_of}
+use Rattle.store.specs.KeptStore.{StoreView, store_number}
 use Rattle.store.specs.Shows.{Shows}
 use Rattle.standby.specs.Followed.{IsAlike}
-use Rattle.standby.specs.State.{IsAmong, behind, due}
-use Rattle.standby.specs.Text.{Content, IsContent, text_of}
+use Rattle.standby.specs.State.{IsTextNumber, behind, due}
+use Rattle.standby.specs.Text.{ShipContent, IsContent, ship_text}
 use Rattle.console.specs.Words.{IsForm}
 
 -- the source has the text of a job, whole
@@ -39,7 +39,7 @@ pub record HasOldStore (left : Option (List ℕ)) : Type 0 where
 pub record CanShip {W : Type 0} (G : Ghosts W) (from : ℕ) (outside : W) : Type 0 where
   pub told : IsSome (G.held outside)
   pub stood : IsStanding (held_of G outside)
-  pub keeps : (store : KeptStore) → Shows (held_of G outside) store → behind store.bank.base from ≤ store.bank.count
+  pub keeps : (store : StoreView) → Shows (held_of G outside) store → behind store.bank.base from ≤ store.bank.count
 
 -- The source has a ship text, whole, and the disk's bytes are told and stand for a store that can follow it: its lines are as long and as many, its
 -- number is among the text's, and no record behind that is too long.
@@ -47,13 +47,13 @@ pub record CanFollow {W : Type 0} (G : Ghosts W) (left : Option (List ℕ)) (out
   pub text : List ℕ
   pub has_text : left ≡ Some text
   pub few : length text ≤ 1048576
-  pub content : Content
+  pub content : ShipContent
   pub is_content : IsContent content
-  pub means : text ≡ text_of content
+  pub means : text ≡ ship_text content
   pub told : IsSome (G.held outside)
   pub stood : IsStanding (held_of G outside)
-  pub follows : (held : Content) → IsContent held → text ≡ text_of held → (store : KeptStore) → Shows (held_of G outside) store
-      → IsAlike store.header held × IsAmong held (number_of store) × All (λ lines. length lines ≤ most_lines store.header) (due held (number_of store))
+  pub follows : (held : ShipContent) → IsContent held → text ≡ ship_text held → (store : StoreView) → Shows (held_of G outside) store
+      → IsAlike store.header held × IsTextNumber held (store_number store) × All (λ lines. length lines ≤ most_lines store.header) (due held (store_number store))
 
 -- what a command needs: the text of a job and a store to run it on, to list it or to drill it; bytes that stand for a store with a range; an empty disk, and a store of version 1 to renew; records
 -- that are kept, or that can be followed; a store to run a load on; a bundle with no wrong part, and a trace in it.
@@ -84,16 +84,16 @@ Completes G words given before now status =
     → (status ≡ Status.Done) ⊎ (status ≡ Status.NoMemory)
 
 -- a status of a command, by its own list
-abbrev pub IsOf : Command → Status → Type 0
-IsOf command.Try = IsOfRun
-IsOf command.Run = IsOfRun
-IsOf command.List = IsOfLines
-IsOf command.Drill = IsOfLines
-IsOf (command.Show range) = IsOfShow
-IsOf (command.New header) = IsOfNew
-IsOf (command.Renew bank) = IsOfRenew
-IsOf (command.Ship from) = IsOfShip
-IsOf command.Follow = IsOfFollow
-IsOf (command.Big transfers) = IsOfEvents
-IsOf command.Audit = IsOfAudit
-IsOf (command.Trace activation) = IsOfTrace
+abbrev pub IsOfCommand : Command → Status → Type 0
+IsOfCommand command.Try = IsOfRun
+IsOfCommand command.Run = IsOfRun
+IsOfCommand command.List = IsOfLines
+IsOfCommand command.Drill = IsOfLines
+IsOfCommand (command.Show range) = IsOfShow
+IsOfCommand (command.New header) = IsOfNew
+IsOfCommand (command.Renew bank) = IsOfRenew
+IsOfCommand (command.Ship from) = IsOfShip
+IsOfCommand command.Follow = IsOfFollow
+IsOfCommand (command.Big transfers) = IsOfEvents
+IsOfCommand command.Audit = IsOfAudit
+IsOfCommand (command.Trace activation) = IsOfTrace

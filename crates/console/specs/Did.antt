@@ -5,8 +5,8 @@ use Rattle.job_calls.specs.Big.{Loaded}
 use Rattle.job_calls.specs.Headline.{Happened, ended_call}
 use Rattle.drills.specs.Drilled.{Drilled}
 use Rattle.console.specs.Listed.{Listed}
-use Rattle.console.specs.declared.words.Command.{Command}
-use Rattle.console.specs.declared.words.Command.TheVariants as command
+use Rattle.console.specs.declared.command_words.Command.{Command}
+use Rattle.console.specs.declared.command_words.Command.TheVariants as command
 
 -- A command did what it does, with what it was given of its source, from one state of the outside to another, as it ended: a job was run, listed or
 -- drilled, bytes were shown, a store was made or renewed, records were shipped or followed, a load was run, or a bundle was checked or traced.

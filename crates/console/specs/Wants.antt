@@ -2,8 +2,8 @@
 use Rattle.std.specs.Prelude.{Bool, true, false}
 use Rattle.console.specs.declared.wants.DiskKind.{DiskKind}
 use Rattle.console.specs.declared.wants.DiskKind.TheVariants.{Looked, Changed, Made, OfTry, Empty}
-use Rattle.console.specs.declared.words.Command.{Command}
-use Rattle.console.specs.declared.words.Command.TheVariants as command
+use Rattle.console.specs.declared.command_words.Command.{Command}
+use Rattle.console.specs.declared.command_words.Command.TheVariants as command
 
 -- the disk that a command is run on
 abbrev pub disk_for : Command → DiskKind

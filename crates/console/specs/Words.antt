@@ -1,12 +1,12 @@
 -- The words of the command line.
 use Rattle.std.specs.Prelude.{◌≡◌, ◌≢◌, ◌⊎◌, ℕ, ◌-◌, ◌/◌, ◌%◌, ◌^◌, ◌<◌, ◌≤◌, ◌==◌, nat_le, if◌then◌else◌, Bool, true, false, List, [], ◌∷◌, map, length, take, slice_index, codes, Option, Some, None, option_map, String, string_bytes, MatchOption, ◌+◌, All, ◌++◌}
 use Rattle.std.specs.Str.Parse.{IsNumeral, digits_value}
-use Rattle.console.specs.Below.{AreFlags, Global, HasRanges, IsLegal, IsInRange}
-use Rattle.asm_parse.specs.Number.{number_in}
+use Rattle.console.specs.Below.{AreFlags, Global, HasRanges, AreSegmentsLegal, IsInRange}
+use Rattle.asm_parse.specs.Number.{radix_number}
 use Rattle.lines.specs.declared.line_geometry.PageSize.{PageSize}
 use Rattle.lines.specs.declared.line_geometry.PageSize.TheVariants.{Two, Four}
-use Rattle.console.specs.declared.words.Command.{Command}
-use Rattle.console.specs.declared.words.Command.TheVariants as command
+use Rattle.console.specs.declared.command_words.Command.{Command}
+use Rattle.console.specs.declared.command_words.Command.TheVariants as command
 use Rattle.store_calls.specs.declared.show.Range.{Range}
 use Rattle.store_format.specs.Header.{Header}
 use Rattle.lines.specs.Directory.{Layout}
@@ -33,8 +33,8 @@ word_of command.Audit = codes "audit"
 word_of (command.Trace activation) = codes "trace"
 
 -- the number of a word: one to ten decimal digits, which write at most 4,294,967,295
-abbrev pub number_of : List ℕ → Option ℕ
-number_of word = if nat_le (length word) 10 then number_in 10 word else None
+abbrev pub argument_number : List ℕ → Option ℕ
+argument_number word = if nat_le (length word) 10 then radix_number 10 word else None
 
 -- The word is this long number: one to twenty decimal digits, which write at most 18,446,744,073,709,551,615.
 pub record IsLong (word : List ℕ) (number : ℕ) : Type 0 where
@@ -50,8 +50,8 @@ ends_marked word = slice_index word (length word - 1) == 102
 -- the number that a word says, and whether the mark `f` stands behind its digits
 abbrev pub marked_of : List ℕ → Option (ℕ × Bool)
 marked_of word =
-    if ends_marked word then option_map (λ number. (number, true)) (number_of (take (length word - 1) word))
-    else option_map (λ number. (number, false)) (number_of word)
+    if ends_marked word then option_map (λ number. (number, true)) (argument_number (take (length word - 1) word))
+    else option_map (λ number. (number, false)) (argument_number word)
 
 -- these words are these numbers, each with its mark or without
 abbrev pub AreNumbers : List (List ℕ) → List (ℕ × Bool) → Type 0
@@ -74,20 +74,20 @@ numbers_of (command.Renew bank) = plain (bank ∷ [])
 numbers_of _ = []
 
 -- they are within their bounds: at most 65,536 bytes are shown, a new store has a header, in which only pages of 4,096 bytes are fine, a renewed one has a bank of a header, and a load has 1 to 512 transfers
-abbrev pub AreWithin : Command → Type 0
-AreWithin (command.Show range) = range.count ≤ 65536
-AreWithin (command.New header) = HasRanges header × IsLegal header.directory.segments × AreFlags header.directory.page header.directory.segments header.directory.fine
-AreWithin (command.Renew bank) = (4096 ≤ bank) × (bank ≤ 131072)
-AreWithin (command.Big transfers) = (1 ≤ transfers) × (transfers ≤ 512)
-AreWithin _ = Unit {0}
+abbrev pub AreBounded : Command → Type 0
+AreBounded (command.Show range) = range.count ≤ 65536
+AreBounded (command.New header) = HasRanges header × AreSegmentsLegal header.directory.segments × AreFlags header.directory.page header.directory.segments header.directory.fine
+AreBounded (command.Renew bank) = (4096 ≤ bank) × (bank ≤ 131072)
+AreBounded (command.Big transfers) = (1 ≤ transfers) × (transfers ≤ 512)
+AreBounded _ = Unit {0}
 
 -- a command whose word stands alone
-abbrev pub IsAlone : Command → Type 0
-IsAlone command.Try = Unit {0}
-IsAlone command.List = Unit {0}
-IsAlone command.Drill = Unit {0}
-IsAlone command.Audit = Unit {0}
-IsAlone _ = ⊥
+abbrev pub StandsAlone : Command → Type 0
+StandsAlone command.Try = Unit {0}
+StandsAlone command.List = Unit {0}
+StandsAlone command.Drill = Unit {0}
+StandsAlone command.Audit = Unit {0}
+StandsAlone _ = ⊥
 
 -- a command whose word stands with a number
 abbrev pub IsNumbered : Command → Type 0
@@ -122,7 +122,7 @@ pub record NamesStore (form : Command) (words : List (List ℕ)) : Type 0 where
 pub record SaysNumber (form : Command) (words : List (List ℕ)) : Type 0 where
   pub number : List ℕ
   pub are : words ≡ word_of form ∷ number ∷ []
-  pub say : number_of number ≡ Some (number_said form)
+  pub say : argument_number number ≡ Some (number_said form)
 
 -- The words are that of shipping, a store, which is any word that isn't empty, and a long number.
 pub record ShipsFrom (from : ℕ) (words : List (List ℕ)) : Type 0 where
@@ -146,7 +146,7 @@ Says form words = NamesStore form words
 -- the words are a command
 pub record IsForm (form : Command) (words : List (String Global)) : Type 0 where
   pub says : Says form (map string_bytes words)
-  pub within : AreWithin form
+  pub within : AreBounded form
 
 -- the words are no command
 abbrev pub IsNoForm : List (String Global) → Type 0
@@ -186,33 +186,33 @@ IsNumberedForm words form = IsNumbered form × IsForm form words
 
 -- a word and a number are a command within its bounds
 abbrev pub IsCommandWith : (word number : List ℕ) → Command → Type 0
-IsCommandWith word number form = IsNumbered form × (word ≡ word_of form) × (number_of number ≡ Some (number_said form)) × AreWithin form
+IsCommandWith word number form = IsNumbered form × (word ≡ word_of form) × (argument_number number ≡ Some (number_said form)) × AreBounded form
 
 -- one word alone is a command
 abbrev pub IsCommandAlone : (word : List ℕ) → Command → Type 0
-IsCommandAlone word form = IsAlone form × (word ≡ word_of form)
+IsCommandAlone word form = StandsAlone form × (word ≡ word_of form)
 
 -- a word with a store and these numbers is a command within its bounds
 abbrev pub IsCommandOn : (word : List ℕ) → (numbers : List (ℕ × Bool)) → Command → Type 0
-IsCommandOn word numbers form = IsOnStore form × (word ≡ word_of form) × (numbers ≡ numbers_of form) × AreWithin form
+IsCommandOn word numbers form = IsOnStore form × (word ≡ word_of form) × (numbers ≡ numbers_of form) × AreBounded form
 
 -- these numbers are a range that may be shown
 abbrev pub IsRangeOf : (numbers : List (ℕ × Bool)) → Range → Type 0
 IsRangeOf numbers range = (numbers ≡ plain (range.segment ∷ range.from ∷ range.count ∷ [])) × (range.count ≤ 65536)
 
 -- these numbers are the bytes of a bank of a header
-abbrev pub IsBankOf : (numbers : List (ℕ × Bool)) → (bank : ℕ) → Type 0
-IsBankOf numbers bank = (numbers ≡ plain (bank ∷ [])) × (4096 ≤ bank) × (bank ≤ 131072)
+abbrev pub IsBankSize : (numbers : List (ℕ × Bool)) → (bank : ℕ) → Type 0
+IsBankSize numbers bank = (numbers ≡ plain (bank ∷ [])) × (4096 ≤ bank) × (bank ≤ 131072)
 
 -- these numbers are a header with pages of this size
 abbrev pub IsHeaderOf : PageSize → (numbers : List (ℕ × Bool)) → Header → Type 0
 IsHeaderOf page numbers header =
-    (header.directory.page ≡ page) × (numbers ≡ numbers_of (command.New header)) × AreWithin (command.New header)
+    (header.directory.page ≡ page) × (numbers ≡ numbers_of (command.New header)) × AreBounded (command.New header)
 
 -- these numbers are the segments of a directory with pages of this size
 abbrev pub IsDirectoryOf : PageSize → (numbers : List (ℕ × Bool)) → Layout → Type 0
 IsDirectoryOf page numbers directory =
-    (directory.page ≡ page) × (numbers ≡ spread directory.segments directory.fine) × IsLegal directory.segments
+    (directory.page ≡ page) × (numbers ≡ spread directory.segments directory.fine) × AreSegmentsLegal directory.segments
     × AreFlags page directory.segments directory.fine
 
 -- segments were added that these numbers are, with their flags; none where numbers are no segments, or there is no room

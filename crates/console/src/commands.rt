@@ -1,12 +1,13 @@
+// The one call that does all: a command, and the room that it leads to.
 ghost use Rattle.std.specs.Prelude.{◌≡◌, ◌⊎◌, ◌↔◌, [], None};
 ghost use Rattle.console.specs.Below.{given, OpensBy, order_told, ReadFaultsBy, ReadsBy};
 ghost use Rattle.job_calls.specs.Handed.{HandedFits, HandsOn};
-ghost use Rattle.console.specs.Causes.{Completes, IsOf};
+ghost use Rattle.console.specs.Causes.{Completes, IsOfCommand};
 ghost use Rattle.console.specs.Did.{Does};
 ghost use Rattle.console.specs.Words.{IsForm, IsNoForm, OpensSession, ReadsBundle, ReadsJob, ReadsStore, ReadsText, RunsJob};
 
+use super::command_words::{Command, command_of};
 use super::list::list_source;
-use super::words::{Command, command_of};
 use call_status::Status;
 use drills::drill_source;
 use job_calls::{Ended, run_load, run_source};
@@ -26,7 +27,7 @@ pub fn console<S: Source, W: Outside>(
 ) -> Ended
     ensures usage { result.status ≡ Status.Usage ↔ IsNoForm words.now }
     ensures unasked { result.status ≡ Status.Usage → (job.new ≡ job.old) × (outside.new ≡ outside.old) × (order_told result.order.items ≡ []) }
-    ensures only { (form : Command) → IsForm form words.now → IsOf form result.status }
+    ensures only { (form : Command) → IsForm form words.now → IsOfCommand form result.status }
     ensures read { ReadsJob words.now → ReadsBy (given S.Source job.old job.new) result.status }
     ensures unread { (¬ (ReadsJob words.now ⊎ ReadsBundle words.now ⊎ ReadsStore words.now ⊎ ReadsText words.now)) → job.new ≡ job.old }
     ensures faults { ReadFaultsBy W.Outside (given S.Source job.old job.new) outside.old outside.new result.status }

@@ -1,10 +1,10 @@
 //! The console: the one call that does all that the program does (docs/MODEL.md). It reads the words and hands on.
 #![tactic(auto)]
 
+mod command_words;
 mod commands;
 mod list;
 mod wants;
-mod words;
 
 pub use call_status::{Status, status_text};
 pub use commands::console;

@@ -1,6 +1,6 @@
 // The listing of a job's programs.
 ghost use Rattle.std.specs.Prelude.{◌≡◌, length};
-ghost use Rattle.console.specs.Below.{content_of, Puts, PutsTimes};
+ghost use Rattle.console.specs.Below.{content_of, PrintsBytes, PutsTimes};
 ghost use Rattle.console.specs.Listed.{ListsFrom, listings_of, lines_listed};
 
 use call_status::{Status, job_from};
@@ -25,7 +25,7 @@ pub fn list_source<S: Source, W: Outside>(alloc: Global, source: &mut S, outside
 /// Puts the listings of a job's programs, one after another.
 fn put_programs<W: Outside>(job: &Job, outside: &mut W) -> Result<(), Failed>
     requires { length job.now.names.items ≡ length job.now.programs.items }
-    ensures puts { Puts W.Outside (listings_of (content_of job.now)) outside.old outside.new result }
+    ensures puts { PrintsBytes W.Outside (listings_of (content_of job.now)) outside.old outside.new result }
     ensures times { PutsTimes W.Outside (lines_listed (content_of job.now)) outside.old outside.new result }
 {
     for (index, program) in job.programs.iter().enumerate() {

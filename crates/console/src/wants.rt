@@ -3,7 +3,7 @@ ghost use Rattle.std.specs.Prelude.{◌≡◌, [], map, false, slice_index_or, s
 ghost use Rattle.console.specs.Words.{IsForm, IsNoForm};
 ghost use Rattle.console.specs.Wants.{disk_for, reads_for};
 
-use super::words::{Command, command_of};
+use super::command_words::{Command, command_of};
 
 /// The disk that words want (docs/FORMATS.md, "Words").
 #[derive(Clone, Copy)]

@@ -1,11 +1,11 @@
 -- What the steps of a turn keep: the committed bytes, the order, and who is active as what.
-use Rattle.desk.proofs.Common.{◌==◌, not, map, filter, find, if◌then◌else◌, option_and_then, Plain, Activation, numbered, committing, if_commit, before_commit, Desk, Entry, with_entry, ended, rolled_back, wanted, numbers, waits_for, conflicts_of, is_fine, Word, Fine, ReadFailed, Unwritten, Doubt, Failed, Counts, Ending, Committed, CommitUnwritten, CommitDoubted, Turning, Going, Over, Attempt, Fetching, Fetched, Broken, Contest, Contested, Settled, Lost, attempts, attempts_at, instruction, turns, limited, is_over_limit, turn, fetched_first, fetches_touched, asks, gets, goes_on, takes_effect, commits, breaks, breaks_cycle, breaks_cycles, contest_ends, ordered, waits_or_gets, with_grants, refused_pages, nat_tests, ◌≡◌, ℕ, zero, suc, ◌+◌, Bool, true, false, List, [], ◌∷◌, ◌++◌, length, refl, sym, ◌∙◌, ap, arith, Option, Some, None}
+use Rattle.desk.proofs.Common.{◌==◌, not, map, filter, find, if◌then◌else◌, option_and_then, Plain, Activation, numbered, committing, if_commit, before_commit, Desk, Active, with_active, ended, rolled_back, wanted, numbers, waits_for, conflicts_of, is_fine, DiskWord, Fine, ReadFailed, Unwritten, Doubt, Failed, Counts, Ending, Committed, CommitUnwritten, CommitDoubted, Turning, Going, Over, InFlight, Fetching, Fetched, Broken, Contest, Contested, Settled, Lost, attempts, attempts_at, instruction, turns, limited, is_over_limit, turn, fetched_first, fetches_touched, asks, gets, goes_on, takes_effect, commits, breaks, breaks_cycle, breaks_cycles, contest_ends, ordered, waits_or_gets, with_grants, refused_pages, nat_tests, ◌≡◌, ℕ, zero, suc, ◌+◌, Bool, true, false, List, [], ◌∷◌, ◌++◌, length, refl, sym, ◌∙◌, ap, arith, Option, Some, None}
 use Rattle.flat_machine.specs.Row.{Outcome, On, Commit, Check, row}
 use Rattle.flat_machine.specs.After.{after}
 use Rattle.lines.specs.Waits.{shown_cycle, victim_of}
 
 -- each active entry runs the activation of its number
-abbrev pub AreNumbered : List Activation → List Entry → Type 0
+abbrev pub AreNumbered : List Activation → List Active → Type 0
 AreNumbered all [] = Unit {0}
 AreNumbered all (entry ∷ entries) = (numbered all entry.number ≡ Some entry.runs) × AreNumbered all entries
 
@@ -18,7 +18,7 @@ pub record Moves (all : List Activation) (old new : Desk) : Type 0 where
   pub numbered_all : AreNumbered all old.active → AreNumbered all new.active
 
 -- a step that ends the desk without a commit
-pub record Shuts (word : Word) (old new : Desk) : Type 0 where
+pub record Shuts (word : DiskWord) (old new : Desk) : Type 0 where
   pub broken : is_fine word ≡ false
   pub committed : new.committed ≡ old.committed
   pub order : new.order ≡ old.order
@@ -42,7 +42,7 @@ pub record Commits (all : List Activation) (activation steps : ℕ) (out : List 
   pub numbered_all : AreNumbered all old.active → AreNumbered all new.active
 
 -- a commit in doubt
-pub record Doubts (all : List Activation) (word : Word) (activation : ℕ) (old new : Desk) : Type 0 where
+pub record Doubts (all : List Activation) (word : DiskWord) (activation : ℕ) (old new : Desk) : Type 0 where
   pub broken : is_fine word ≡ false
   pub steps : ℕ
   pub ordered_as : Ordered all activation steps old new
@@ -50,14 +50,14 @@ pub record Doubts (all : List Activation) (word : Word) (activation : ℕ) (old 
   pub closed : new.closed ≡ true
 
 -- what an end of a turn of an activation did
-abbrev pub Ends : List Activation → Word → ℕ → Desk → Desk → Ending → Type 0
+abbrev pub Ends : List Activation → DiskWord → ℕ → Desk → Desk → Ending → Type 0
 Ends all word activation old new (Committed steps out) = Commits all activation steps out old new
 Ends all word activation old new CommitUnwritten = Shuts word old new
 Ends all word activation old new CommitDoubted = Doubts all word activation old new
 Ends all word activation old new _ = Moves all old new
 
 -- what a turn under way, or over, did
-abbrev pub Does : List Activation → Word → ℕ → Desk → Turning → Type 0
+abbrev pub Does : List Activation → DiskWord → ℕ → Desk → Turning → Type 0
 Does all word activation old (Going desk counts) = Moves all old desk
 Does all word activation old (Over desk counts ending) = Ends all word activation old desk ending
 
@@ -76,39 +76,39 @@ pub moves-on : (all : List Activation) (old mid new : Desk) → Moves all old mi
 moves-on all old mid new one two = grind (arith, nat_tests)
 
 -- who is left of them is numbered too
-filtered : (all : List Activation) (keeps : Entry → Bool) (entries : List Entry) → AreNumbered all entries → AreNumbered all (filter keeps entries)
+filtered : (all : List Activation) (keeps : Active → Bool) (entries : List Active) → AreNumbered all entries → AreNumbered all (filter keeps entries)
 filtered all keeps [] are = tt
 filtered all keeps (entry ∷ entries) are = grind (arith, nat_tests, filtered all keeps entries are.1)
 
 -- one of them is replaced by one that runs the same
-replaced : (all : List Activation) (new : Entry) (entries : List Entry) → numbered all new.number ≡ Some new.runs → AreNumbered all entries
-    → AreNumbered all (map (λ (old : Entry). if old.number == new.number then new else old) entries)
+replaced : (all : List Activation) (new : Active) (entries : List Active) → numbered all new.number ≡ Some new.runs → AreNumbered all entries
+    → AreNumbered all (map (λ (old : Active). if old.number == new.number then new else old) entries)
 replaced all new [] is are = tt
 replaced all new (entry ∷ entries) is are = grind (arith, nat_tests, replaced all new entries is are.1)
 
 -- one that is found among them has the number, and runs its activation
-pub found : (all : List Activation) (number : ℕ) (entries : List Entry) (entry : Entry) → AreNumbered all entries
-    → find (λ (one : Entry). one.number == number) entries ≡ Some entry → (entry.number ≡ number) × (numbered all entry.number ≡ Some entry.runs)
+pub found : (all : List Activation) (number : ℕ) (entries : List Active) (entry : Active) → AreNumbered all entries
+    → find (λ (one : Active). one.number == number) entries ≡ Some entry → (entry.number ≡ number) × (numbered all entry.number ≡ Some entry.runs)
 found all number [] entry are is = absurd (cc)
 found all number (one ∷ entries) entry are is = grind (arith, nat_tests, found all number entries entry are.1)
 
 -- a rollback, and other parts
-moves-rolled : (all : List Activation) (desk : Desk) (entry : Entry) → Moves all desk (rolled_back desk entry)
-moves-rolled all desk entry = record { committed = refl; order = refl; next = refl; closed = refl; numbered_all = filtered all (λ (other : Entry). not (other.number == entry.number)) desk.active }
+moves-rolled : (all : List Activation) (desk : Desk) (entry : Active) → Moves all desk (rolled_back desk entry)
+moves-rolled all desk entry = record { committed = refl; order = refl; next = refl; closed = refl; numbered_all = filtered all (λ (other : Active). not (other.number == entry.number)) desk.active }
 
-moves-with : (all : List Activation) (desk : Desk) (entry : Entry) → numbered all entry.number ≡ Some entry.runs → Moves all desk (with_entry desk entry)
+moves-with : (all : List Activation) (desk : Desk) (entry : Active) → numbered all entry.number ≡ Some entry.runs → Moves all desk (with_active desk entry)
 moves-with all desk entry is = record { committed = refl; order = refl; next = refl; closed = refl; numbered_all = replaced all entry desk.active is }
 
 -- what is left of a contest by its victim
-abbrev without : Desk → Option Entry → Desk
+abbrev without : Desk → Option Active → Desk
 without desk None = desk
 without desk (Some entry) = rolled_back desk entry
 
-abbrev left_by : Desk → Counts → Option Entry → Bool → Contest
+abbrev left_by : Desk → Counts → Option Active → Bool → Contest
 left_by desk counts victim true = Lost (without desk victim) counts
 left_by desk counts victim false = Contested (without desk victim) counts
 
-module _ (all : List Activation) (activation : ℕ) (word : Word) (attempt : Attempt) (old : Desk)
+module _ (all : List Activation) (activation : ℕ) (word : DiskWord) (attempt : InFlight) (old : Desk)
     (own : attempt.entry.number ≡ activation)
     (named : numbered all attempt.entry.number ≡ Some attempt.entry.runs)
     (now : after attempt.entry.runs.program attempt.entry.runs.args old.committed attempt.entry.rows ≡ Some attempt.now)
@@ -138,10 +138,10 @@ module _ (all : List Activation) (activation : ℕ) (word : Word) (attempt : Att
     printed = refl;
     next = moves.next;
     closed = moves.closed;
-    numbered_all = λ are. filtered all (λ (entry : Entry). not (entry.number == attempt.entry.number)) desk.active (moves.numbered_all are);
+    numbered_all = λ are. filtered all (λ (entry : Active). not (entry.number == attempt.entry.number)) desk.active (moves.numbered_all are);
   }
 
-  does-commit : (word : Word) (desk : Desk) (counts : Counts) → attempt.outcome ≡ Commit → Moves all old desk → Does all word activation old (commits word attempt desk counts)
+  does-commit : (word : DiskWord) (desk : Desk) (counts : Counts) → attempt.outcome ≡ Commit → Moves all old desk → Does all word activation old (commits word attempt desk counts)
   does-commit Fine desk counts is moves = done desk is moves
   does-commit (ReadFailed page) desk counts is moves = done desk is moves
   does-commit Failed desk counts is moves = done desk is moves
@@ -174,9 +174,9 @@ module _ (all : List Activation) (activation : ℕ) (word : Word) (attempt : Att
   contests-break : (number : ℕ) (cycle : Option (List ℕ)) (desk : Desk) (counts : Counts) → Moves all old desk → Contests all old (breaks_cycle number cycle desk counts)
   contests-break number None desk counts moves = moves
   contests-break number (Some cycle) desk counts moves =
-      by_victim (find (λ (entry : Entry). entry.number == victim_of cycle) desk.active) (victim_of cycle == number)
+      by_victim (find (λ (entry : Active). entry.number == victim_of cycle) desk.active) (victim_of cycle == number)
     where
-      by_victim : (victim : Option Entry) (lost : Bool) → Contests all old (left_by desk (record counts { cycles = counts.cycles ++ cycle ∷ [] }) victim lost)
+      by_victim : (victim : Option Active) (lost : Bool) → Contests all old (left_by desk (record counts { cycles = counts.cycles ++ cycle ∷ [] }) victim lost)
       by_victim None true = moves
       by_victim None false = moves
       by_victim (Some entry) true = moves-on all old desk _ moves (moves-rolled all desk entry)
@@ -224,12 +224,12 @@ module _ (all : List Activation) (activation : ℕ) (word : Word) (attempt : Att
   does-attempt Commit desk counts moves = does-limit (is_over_limit attempt desk) desk counts moves
 
 -- an instruction of the entry with a number
-pub does-instruction : (all : List Activation) (word : Word) (number : ℕ) (desk : Desk) (counts : Counts) → AreNumbered all desk.active
-    → Does all word number desk (instruction word (find (λ (entry : Entry). entry.number == number) desk.active) desk counts)
+pub does-instruction : (all : List Activation) (word : DiskWord) (number : ℕ) (desk : Desk) (counts : Counts) → AreNumbered all desk.active
+    → Does all word number desk (instruction word (find (λ (entry : Active). entry.number == number) desk.active) desk counts)
 unfolding instruction
-does-instruction all word number desk counts are = by_entry (find (λ (entry : Entry). entry.number == number) desk.active) refl
+does-instruction all word number desk counts are = by_entry (find (λ (entry : Active). entry.number == number) desk.active) refl
   where
-    by_state : (entry : Entry) → (entry.number ≡ number) × (numbered all entry.number ≡ Some entry.runs) → (state : Option Plain)
+    by_state : (entry : Active) → (entry.number ≡ number) × (numbered all entry.number ≡ Some entry.runs) → (state : Option Plain)
         → after entry.runs.program entry.runs.args desk.committed entry.rows ≡ state → Does all word number desk (attempts_at word entry state desk counts)
     by_state entry own None is = moves-none all desk
     by_state entry own (Some now) is =
@@ -237,23 +237,23 @@ does-instruction all word number desk counts are = by_entry (find (λ (entry : E
         (record { entry = entry; now = now; outcome = row entry.runs.program desk.committed.directory now; lines = wanted desk entry })
         desk own.0 own.1 is refl (row entry.runs.program desk.committed.directory now) desk counts (moves-none all desk)
 
-    by_entry : (one : Option Entry) → find (λ (entry : Entry). entry.number == number) desk.active ≡ one → Does all word number desk (instruction word one desk counts)
+    by_entry : (one : Option Active) → find (λ (entry : Active). entry.number == number) desk.active ≡ one → Does all word number desk (instruction word one desk counts)
     by_entry None is = moves-none all desk
     by_entry (Some entry) is = by_state entry (found all number desk.active entry are is) (after entry.runs.program entry.runs.args desk.committed entry.rows) refl
 
 -- one more step of a turn
-ends-after : (all : List Activation) (word : Word) (number : ℕ) (old mid new : Desk) (ending : Ending) → Moves all old mid → Ends all word number mid new ending → Ends all word number old new ending
+ends-after : (all : List Activation) (word : DiskWord) (number : ℕ) (old mid new : Desk) (ending : Ending) → Moves all old mid → Ends all word number mid new ending → Ends all word number old new ending
 ends-after all word number old mid new (Committed steps out) moves did = grind (arith, nat_tests)
 ends-after all word number old mid new CommitUnwritten moves did = record { broken = did.broken; committed = did.committed ∙ moves.committed; order = did.order ∙ moves.order; closed = did.closed }
 ends-after all word number old mid new CommitDoubted moves did = grind (arith, nat_tests)
 ends-after all word number old mid new _ moves did = moves-on all old mid new moves did
 
-does-after : (all : List Activation) (word : Word) (number : ℕ) (old mid : Desk) (turning : Turning) → Moves all old mid → Does all word number mid turning → Does all word number old turning
+does-after : (all : List Activation) (word : DiskWord) (number : ℕ) (old mid : Desk) (turning : Turning) → Moves all old mid → Does all word number mid turning → Does all word number old turning
 does-after all word number old mid (Going desk counts) moves did = moves-on all old mid desk moves did
 does-after all word number old mid (Over desk counts ending) moves did = ends-after all word number old mid desk ending moves did
 
 -- so many instructions more
-does-turns : (all : List Activation) (word : Word) (number left : ℕ) (old : Desk) (turning : Turning) → AreNumbered all old.active → Does all word number old turning
+does-turns : (all : List Activation) (word : DiskWord) (number left : ℕ) (old : Desk) (turning : Turning) → AreNumbered all old.active → Does all word number old turning
     → Does all word number old (turns word number left turning)
 unfolding turns
 does-turns all word number zero old (Going desk counts) are did = did
@@ -263,5 +263,5 @@ does-turns all word number (suc left) old (Going desk counts) are did =
 does-turns all word number left old (Over desk counts ending) are did = did
 
 -- a turn
-pub does-turn : (all : List Activation) (word : Word) (number limit : ℕ) (desk : Desk) → AreNumbered all desk.active → Does all word number desk (turn word number limit desk)
+pub does-turn : (all : List Activation) (word : DiskWord) (number limit : ℕ) (desk : Desk) → AreNumbered all desk.active → Does all word number desk (turn word number limit desk)
 does-turn all word number limit desk are = grind (arith, nat_tests, moves-none, does-turns)

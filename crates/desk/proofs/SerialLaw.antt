@@ -1,17 +1,17 @@
 -- The commits of a run are those of a serial run.
-use Rattle.desk.proofs.Common.{nat_lt, not, slice_get, if◌then◌else◌, IsTrue, option_and_then, flat_map, FlatStore, Plain, Program, Activation, numbered, serial, Begin, Turn, Checkpoint, Crash, Desk, Entry, opened, numbers, Word, Fine, ReadFailed, Unwritten, Doubt, Failed, Counts, Ending, Idle, Limit, Checked, Journal, Disk, Victim, Waits, Committed, CommitUnwritten, CommitDoubted, Turning, Going, Over, turn, number_after, happening_lines, cycle_lines, event_lines, nat_tests, ◌≡◌, ℕ, suc, ◌+◌, ◌%◌, ◌^◌, ◌≤◌, ◌⊎◌, inl, inr, Bool, true, false, List, [], ◌∷◌, ◌++◌, length, map, refl, sym, ◌∙◌, ap, subst, arith, Option, Some, None, append_assoc, length-append}
+use Rattle.desk.proofs.Common.{nat_lt, not, slice_get, if◌then◌else◌, IsTrue, option_and_then, flat_map, FlatStore, Plain, Program, Activation, numbered, serial, Begin, Turn, Checkpoint, Crash, Desk, Active, opened, numbers, DiskWord, Fine, ReadFailed, Unwritten, Doubt, Failed, Counts, Ending, Idle, Limit, Checked, Journal, Disk, Victim, Waits, Committed, CommitUnwritten, CommitDoubted, Turning, Going, Over, turn, number_after, happening_lines, cycle_lines, event_lines, nat_tests, ◌≡◌, ℕ, suc, ◌+◌, ◌%◌, ◌^◌, ◌≤◌, ◌⊎◌, inl, inr, Bool, true, false, List, [], ◌∷◌, ◌++◌, length, map, refl, sym, ◌∙◌, ap, subst, arith, Option, Some, None, append_assoc, length-append}
 use Rattle.std.proofs.lemmas.List.{append-nil}
 use Rattle.std.proofs.lemmas.List.Elements.{filter-append}
 use Rattle.std.proofs.lemmas.List.Sums.{sum_by-append}
 use Rattle.desk.specs.declared.event.Event.{Event}
 use Rattle.desk.specs.Run.{Step, Happening, Nothing, Busy, Turned, CheckpointMade, CheckpointFailed, Crashed, CrashFailed, begin_if, begins, absent_segment, turned, restarted, shut as shut_desk, is_fine, faulted, event_of, step, run, OpenBeforeEach}
-use Rattle.desk.specs.Lines.{Line}
+use Rattle.desk.specs.ReportLines.{ReportLine}
 use Rattle.desk.specs.Commits.{begun, begun_before, commit_lines, serial_lines, line_before, RunsAreSerial}
-use Rattle.desk.specs.Lines as line
+use Rattle.desk.specs.ReportLines as line
 use Rattle.desk.proofs.Kept.{AreNumbered, Moves, Commits, Does, Ends, moves-none, does-turn}
 
 -- one entry more is numbered too
-numbered-more : (all : List Activation) (entry : Entry) (entries : List Entry) → AreNumbered all entries → numbered all entry.number ≡ Some entry.runs → AreNumbered all (entries ++ entry ∷ [])
+numbered-more : (all : List Activation) (entry : Active) (entries : List Active) → AreNumbered all entries → numbered all entry.number ≡ Some entry.runs → AreNumbered all (entries ++ entry ∷ [])
 numbered-more all entry [] are is = (is, tt)
 numbered-more all entry (one ∷ entries) are is = (are.0, numbered-more all entry entries are.1 is)
 
@@ -21,7 +21,7 @@ at-front [] one rest = refl
 at-front (first ∷ front) one rest = at-front front one rest
 
 -- cycles have no commit lines
-cycles-quiet : (cycles : List (List ℕ)) (lines : List Line) → commit_lines (flat_map cycle_lines cycles ++ lines) ≡ commit_lines lines
+cycles-quiet : (cycles : List (List ℕ)) (lines : List ReportLine) → commit_lines (flat_map cycle_lines cycles ++ lines) ≡ commit_lines lines
 cycles-quiet [] lines = refl
 cycles-quiet (cycle ∷ cycles) lines = cycles-quiet cycles lines
 
@@ -50,7 +50,7 @@ pub record Commit (all : List Activation) (names : List (List ℕ)) (front : Lis
   pub one_line : (number : ℕ) → commit_lines (happening_lines names number new.happening) ≡ line.Commit activation number steps out ∷ []
 
 -- an event that closes the desk, with a commit in doubt or none
-pub record Closes (all : List Activation) (names : List (List ℕ)) (word : Word) (old : Desk) (new : Step) : Type 0 where
+pub record Closes (all : List Activation) (names : List (List ℕ)) (word : DiskWord) (old : Desk) (new : Step) : Type 0 where
   pub broken : is_fine word ≡ false
   pub committed : new.desk.committed ≡ old.committed
   pub closed : new.desk.closed ≡ true
@@ -60,7 +60,7 @@ pub record Closes (all : List Activation) (names : List (List ℕ)) (word : Word
   pub with_doubt : (last : FlatStore) × (serial all doubt old.committed ≡ Some last)
   pub no_lines : (number : ℕ) → commit_lines (happening_lines names number new.happening) ≡ []
 
-abbrev EventDid : List Activation → List (List ℕ) → List Activation → Word → Desk → Step → Type 0
+abbrev EventDid : List Activation → List (List ℕ) → List Activation → DiskWord → Desk → Step → Type 0
 EventDid all names front word old new = Quiet all names front old new ⊎ Commit all names front old new ⊎ Closes all names word old new
 
 module _ (all : List Activation) (names : List (List ℕ)) (programs : List Program) where
@@ -101,7 +101,7 @@ module _ (all : List Activation) (names : List (List ℕ)) (programs : List Prog
       by_room false = record { committed = refl; order = refl; closed = refl; next = next-is; are = are; no_lines = λ number. refl }
 
   -- a turn
-  module _ (front : List Activation) (old : Desk) (next : old.next ≡ suc (length front)) (are : AreNumbered all old.active) (word : Word) where
+  module _ (front : List Activation) (old : Desk) (next : old.next ≡ suc (length front)) (are : AreNumbered all old.active) (word : DiskWord) where
     quiet-moves : (new : Desk) (happening : Happening) → Moves all old new → ((number : ℕ) → commit_lines (happening_lines names number happening) ≡ [])
         → EventDid all names front word old (record { desk = new; happening = happening })
     quiet-moves new happening moves quiet = grind (arith, nat_tests)
@@ -167,31 +167,31 @@ module _ (all : List Activation) (names : List (List ℕ)) (programs : List Prog
       no_lines = quiet;
     }))
 
-    checkpoint-did : (word : Word) → EventDid all names front word old (event_of programs Checkpoint word old)
+    checkpoint-did : (word : DiskWord) → EventDid all names front word old (event_of programs Checkpoint word old)
     checkpoint-did Fine = quiet-moves front old next are Fine old CheckpointMade (moves-none all old) (λ number. refl)
     checkpoint-did (ReadFailed page) = quiet-moves front old next are (ReadFailed page) old CheckpointMade (moves-none all old) (λ number. refl)
     checkpoint-did Unwritten = quiet-moves front old next are Unwritten old CheckpointMade (moves-none all old) (λ number. refl)
     checkpoint-did Doubt = quiet-moves front old next are Doubt old CheckpointMade (moves-none all old) (λ number. refl)
     checkpoint-did Failed = shut (shut_desk old) CheckpointFailed refl refl refl (λ number. refl)
 
-    lost-quiet : (lost : List ℕ) (behind : List Line) → commit_lines (map line.Lost lost ++ behind) ≡ commit_lines behind
+    lost-quiet : (lost : List ℕ) (behind : List ReportLine) → commit_lines (map line.Lost lost ++ behind) ≡ commit_lines behind
     lost-quiet [] behind = refl
     lost-quiet (number ∷ lost) behind = lost-quiet lost behind
 
-    crashed : (word : Word) → EventDid all names front word old (record { desk = restarted old; happening = Crashed (numbers old) })
+    crashed : (word : DiskWord) → EventDid all names front word old (record { desk = restarted old; happening = Crashed (numbers old) })
     crashed word =
         quiet-moves front old next are word (restarted old) (Crashed (numbers old))
         (record { committed = refl; order = refl; next = refl; closed = refl; numbered_all = λ these. tt })
         (λ number. lost-quiet (numbers old) (line.Open number ∷ []))
 
-    crash-did : (word : Word) → EventDid all names front word old (event_of programs Crash word old)
+    crash-did : (word : DiskWord) → EventDid all names front word old (event_of programs Crash word old)
     crash-did Fine = crashed Fine
     crash-did (ReadFailed page) = crashed (ReadFailed page)
     crash-did Unwritten = crashed Unwritten
     crash-did Doubt = crashed Doubt
     crash-did Failed = shut (shut_desk (restarted old)) (CrashFailed (numbers old)) refl refl refl (λ number. lost-quiet (numbers old) (line.Closed ∷ []))
 
-    pub event-did : (event : Event) (word : Word) (rest : List Activation) → all ≡ front ++ begun_one programs event rest
+    pub event-did : (event : Event) (word : DiskWord) (rest : List Activation) → all ≡ front ++ begun_one programs event rest
         → EventDid all names (front ++ begun_one programs event []) word old (event_of programs event word old)
     event-did (Begin program args) word rest is = inl (begin-did program args (slice_get programs program) front rest old is next are)
     event-did (Turn activation limit) word rest is =
@@ -228,7 +228,7 @@ begun-append programs [] more = refl
 begun-append programs (event ∷ events) more = grind (arith, nat_tests, begun-append programs events more, begun-first, begun_one-append)
 
 -- the commits of a run from a desk on
-pub record From (all : List Activation) (names : List (List ℕ)) (programs : List Program) (number : ℕ) (old : Desk) (taken : List (Event × Word)) : Type 0 where
+pub record From (all : List Activation) (names : List (List ℕ)) (programs : List Program) (number : ℕ) (old : Desk) (taken : List (Event × DiskWord)) : Type 0 where
   pub done : List (ℕ × ℕ)
   pub doubt : List (ℕ × ℕ)
   pub order : (run programs taken old).order ≡ old.order ++ (done ++ doubt)
@@ -240,27 +240,27 @@ pub record From (all : List Activation) (names : List (List ℕ)) (programs : Li
   pub lines : commit_lines (event_lines names programs number taken old) ≡ serial_lines all (number + length old.order) done old.committed
 
 -- a step of an open desk
-step-is : (programs : List Program) (event : Event) (word : Word) (desk : Desk) → IsTrue (not desk.closed) → step programs event word desk ≡ event_of programs event word desk
+step-is : (programs : List Program) (event : Event) (word : DiskWord) (desk : Desk) → IsTrue (not desk.closed) → step programs event word desk ≡ event_of programs event word desk
 step-is programs event word desk still = grind (arith, nat_tests)
 
 -- none of these events can follow one that closed the desk
-none-behind : (programs : List Program) (taken : List (Event × Word)) (desk : Desk) → desk.closed ≡ true → OpenBeforeEach programs taken desk → taken ≡ []
+none-behind : (programs : List Program) (taken : List (Event × DiskWord)) (desk : Desk) → desk.closed ≡ true → OpenBeforeEach programs taken desk → taken ≡ []
 none-behind programs [] desk shut each_open = refl
 none-behind programs (event ∷ taken) desk shut each_open = absurd (let still : IsTrue (not true) = subst (λ (closed : Bool). IsTrue (not closed)) shut each_open.0 in cc)
 
 -- one word more that isn't fine
-faulted-split : (event : Event) (word : Word) (taken : List (Event × Word)) → faulted ((event, word) ∷ taken) ≡ faulted ((event, word) ∷ []) + faulted taken
-faulted-split event word taken = sum_by-append (λ (each : Event × Word). if not (is_fine each.1) then 1 else 0) ((event, word) ∷ []) taken
+faulted-split : (event : Event) (word : DiskWord) (taken : List (Event × DiskWord)) → faulted ((event, word) ∷ taken) ≡ faulted ((event, word) ∷ []) + faulted taken
+faulted-split event word taken = sum_by-append (λ (each : Event × DiskWord). if not (is_fine each.1) then 1 else 0) ((event, word) ∷ []) taken
 
-faulted-one : (event : Event) (word : Word) (taken : List (Event × Word)) → is_fine word ≡ false → 1 ≤ faulted ((event, word) ∷ taken)
+faulted-one : (event : Event) (word : DiskWord) (taken : List (Event × DiskWord)) → is_fine word ≡ false → 1 ≤ faulted ((event, word) ∷ taken)
 faulted-one event word taken broken = grind (arith, nat_tests, faulted-split event word taken)
 
-faulted-more : (event : Event) (word : Word) (taken : List (Event × Word)) → 1 ≤ faulted taken → 1 ≤ faulted ((event, word) ∷ taken)
+faulted-more : (event : Event) (word : DiskWord) (taken : List (Event × DiskWord)) → 1 ≤ faulted taken → 1 ≤ faulted ((event, word) ∷ taken)
 faulted-more event word taken some = omega (arith, faulted-split event word taken, some)
 
 module _ (all : List Activation) (names : List (List ℕ)) (programs : List Program) (number : ℕ) where
   -- an event before others, which are from the desk after it
-  module _ (front : List Activation) (old : Desk) (new : Step) (event : Event) (word : Word) (taken : List (Event × Word)) (is : step programs event word old ≡ new) where
+  module _ (front : List Activation) (old : Desk) (new : Step) (event : Event) (word : DiskWord) (taken : List (Event × DiskWord)) (is : step programs event word old ≡ new) where
     run-is : run programs ((event, word) ∷ taken) old ≡ run programs taken new.desk
     run-is = ap (λ (s : Step). run programs taken s.desk) is
 
@@ -285,7 +285,7 @@ module _ (all : List Activation) (names : List (List ℕ)) (programs : List Prog
       closed_by = closed-on quiet.closed from.closed_by;
       lines =
           lines-are
-          ∙ ap (λ (here : List Line). here ++ commit_lines (event_lines names programs number taken new.desk)) (quiet.no_lines (number_after number new.desk))
+          ∙ ap (λ (here : List ReportLine). here ++ commit_lines (event_lines names programs number taken new.desk)) (quiet.no_lines (number_after number new.desk))
           ∙ from.lines
           ∙ ap (λ (order : List (ℕ × ℕ)). serial_lines all (number + length order) from.done new.desk.committed) quiet.order
           ∙ ap (serial_lines all (number + length old.order) from.done) quiet.committed;
@@ -310,8 +310,8 @@ module _ (all : List Activation) (names : List (List ℕ)) (programs : List Prog
           closed_by = closed-on did.closed from.closed_by;
           lines =
               lines-are
-              ∙ ap (λ (these : List Line). these ++ commit_lines (event_lines names programs number taken new.desk)) (commit.one_line (number_after number new.desk))
-              ∙ ap (λ (rest : List Line). line.Commit commit.activation (number_after number new.desk) commit.steps commit.out ∷ rest) from.lines
+              ∙ ap (λ (these : List ReportLine). these ++ commit_lines (event_lines names programs number taken new.desk)) (commit.one_line (number_after number new.desk))
+              ∙ ap (λ (rest : List ReportLine). line.Commit commit.activation (number_after number new.desk) commit.steps commit.out ∷ rest) from.lines
               ∙ ap (λ (n : ℕ). line.Commit commit.activation n commit.steps commit.out ∷ serial_lines all (number + length new.desk.order) from.done new.desk.committed) here
               ∙ ap (λ (n : ℕ). line.Commit commit.activation ((number + length old.order + 1) % 2 ^ 64) commit.steps commit.out ∷ serial_lines all n from.done new.desk.committed) next
               ∙ ap (λ (store : FlatStore). line.Commit commit.activation ((number + length old.order + 1) % 2 ^ 64) commit.steps commit.out ∷ serial_lines all (number + length old.order + 1) from.done store) did.committed
@@ -322,7 +322,7 @@ module _ (all : List Activation) (names : List (List ℕ)) (programs : List Prog
     from-close : Closes all names word old new → OpenBeforeEach programs taken new.desk → From all names programs number old ((event, word) ∷ taken)
     from-close closes each_open =
         let none : taken ≡ [] = none-behind programs taken new.desk closes.closed each_open in
-        let last : run programs ((event, word) ∷ taken) old ≡ new.desk = run-is ∙ ap (λ (these : List (Event × Word)). run programs these new.desk) none in
+        let last : run programs ((event, word) ∷ taken) old ≡ new.desk = run-is ∙ ap (λ (these : List (Event × DiskWord)). run programs these new.desk) none in
         record {
           done = [];
           doubt = closes.doubt;
@@ -334,13 +334,13 @@ module _ (all : List Activation) (names : List (List ℕ)) (programs : List Prog
           closed_by = inr (faulted-one event word taken closes.broken);
           lines =
               lines-are
-              ∙ ap (λ (here : List Line). here ++ commit_lines (event_lines names programs number taken new.desk)) (closes.no_lines (number_after number new.desk))
-              ∙ ap (λ (these : List (Event × Word)). commit_lines (event_lines names programs number these new.desk)) none;
+              ∙ ap (λ (here : List ReportLine). here ++ commit_lines (event_lines names programs number taken new.desk)) (closes.no_lines (number_after number new.desk))
+              ∙ ap (λ (these : List (Event × DiskWord)). commit_lines (event_lines names programs number these new.desk)) none;
         }
 
   -- a run from a desk on, with the activations that have begun in front of those that begin
-  pub serial-from : (taken : List (Event × Word)) (front tail : List Activation) (old : Desk)
-      → all ≡ front ++ (begun programs (map (λ (each : Event × Word). each.0) taken) ++ tail)
+  pub serial-from : (taken : List (Event × DiskWord)) (front tail : List Activation) (old : Desk)
+      → all ≡ front ++ (begun programs (map (λ (each : Event × DiskWord). each.0) taken) ++ tail)
       → old.next ≡ suc (length front) → AreNumbered all old.active → OpenBeforeEach programs taken old
       → From all names programs number old taken
   serial-from [] front tail old is next are each_open = record {
@@ -355,12 +355,12 @@ module _ (all : List Activation) (names : List (List ℕ)) (programs : List Prog
     lines = refl;
   }
   serial-from ((event, word) ∷ taken) front tail old is next are each_open =
-      let later = begun programs (map (λ (each : Event × Word). each.0) taken) in
+      let later = begun programs (map (λ (each : Event × DiskWord). each.0) taken) in
       let new = event_of programs event word old in
       let here = front ++ begun_one programs event [] in
       let split : all ≡ front ++ begun_one programs event (later ++ tail) =
       is
-      ∙ ap (λ (these : List Activation). front ++ (these ++ tail)) (begun-first programs event (map (λ (each : Event × Word). each.0) taken))
+      ∙ ap (λ (these : List Activation). front ++ (these ++ tail)) (begun-first programs event (map (λ (each : Event × DiskWord). each.0) taken))
       ∙ ap (λ (these : List Activation). front ++ these) (begun_one-append programs event later tail) in
       let on : all ≡ here ++ (later ++ tail) = split ∙ begun_one-behind programs event front (later ++ tail) in
       let stepped = step-is programs event word old each_open.0 in
@@ -379,8 +379,8 @@ module _ (all : List Activation) (names : List (List ℕ)) (programs : List Prog
 pub run_serial : RunsAreSerial
 run_serial names programs number frames most most_lines store events taken rest is =
     let start = opened frames most most_lines store in
-    let all : begun programs events ≡ begun programs (map (λ (each : Event × Word). each.0) taken) ++ begun programs rest =
-    ap (begun programs) (sym is.prefix) ∙ begun-append programs (map (λ (each : Event × Word). each.0) taken) rest in
+    let all : begun programs events ≡ begun programs (map (λ (each : Event × DiskWord). each.0) taken) ++ begun programs rest =
+    ap (begun programs) (sym is.prefix) ∙ begun-append programs (map (λ (each : Event × DiskWord). each.0) taken) rest in
     let from = serial-from (begun programs events) names programs number taken [] (begun programs rest) start all refl tt is.each_open in
     let same : number + 0 ≡ number = omega arith in
     record {

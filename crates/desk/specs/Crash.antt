@@ -4,7 +4,7 @@ use Rattle.desk.specs.Below.{Ghosts, held_of, IsSure, Leaves, Program, Rose, Sta
 use Rattle.desk.specs.declared.event.Event.{Event}
 use Rattle.desk.specs.Calls.{Fixed}
 use Rattle.desk.specs.Desk.{Desk}
-use Rattle.desk.specs.Instruction.{Word, Fine, Doubt}
+use Rattle.desk.specs.Instruction.{DiskWord, Fine, Doubt}
 use Rattle.desk.specs.Kept.{JournalAfter, journal_in}
 use Rattle.desk.specs.Run.{Happening, step}
 use Rattle.desk.specs.Report.{number_after}
@@ -48,7 +48,7 @@ view closed order shows = record { closed = closed; order = order; shows = shows
 -- step left the desk. While the desk is open, its bytes are sure and shown, and their journal is what what happened makes of the one before. A crash
 -- in the event leaves what stood before it or after it; where a commit in doubt closed the desk there is one place with whose byte the commit stands.
 pub record TookEvent {W : Type 0} (G : Ghosts W) (this : ToldEvent) (seen : View) (desk : Desk) (before after : W) : Type 0 where
-  pub word : Word
+  pub word : DiskWord
   pub next : Desk
   pub stepped : step this.programs this.event word desk ≡ record { desk = next; happening = this.told }
   pub why : (word ≡ Fine) ⊎ Rose (G.disk_faults before) (G.disk_faults after)

@@ -3,15 +3,15 @@ use Rattle.std.specs.Prelude.{◌≡◌, ℕ, ◌+◌, ◌≤◌, ◌%◌, ◌^�
 use Rattle.std.specs.Option.{ForSome}
 use Rattle.desk.specs.Below.{chosen, Ghosts, Header, header_of, held_of, total}
 use Rattle.lines.specs.declared.line_geometry.PageSize.{PageSize}
-use Rattle.store_format.specs.Bank.{Bank, Holds, Faulty, RecordLine, base_of, bank_of, record_bytes}
+use Rattle.store_format.specs.Bank.{BankContent, Holds, Faulty, RecordLine, base_of, bank_of, record_bytes}
 use Rattle.desk.specs.declared.answers.Reopened.{Reopened}
 use Rattle.desk.specs.declared.answers.Reopened.TheVariants as reopened
 use Rattle.desk.specs.declared.answers.TurnEnd.{TurnEnd}
 use Rattle.desk.specs.declared.answers.TurnEnd.TheVariants as end
 use Rattle.desk.specs.Instruction.{Committed}
 use Rattle.desk.specs.Run.{Happening, Turned, CheckpointMade}
-use Rattle.desk.specs.Lines as line
-use Rattle.desk.specs.Lines.{Line}
+use Rattle.desk.specs.ReportLines as line
+use Rattle.desk.specs.ReportLines.{ReportLine}
 
 -- the bytes that are told are enough for a store with this header
 abbrev pub HoldsStore : {W : Type 0} → Ghosts W → Header → W → Type 0
@@ -44,13 +44,13 @@ turn_fails (end.Closed doubt number) = true
 turn_fails _ = false
 
 -- whether a line tells of a disk that failed
-abbrev pub tells_fault : Line → Bool
+abbrev pub tells_fault : ReportLine → Bool
 tells_fault (line.Disk activation) = true
 tells_fault line.Closed = true
 tells_fault _ = false
 
 -- the records of a bank; none where it has a fault
-abbrev pub records_of : Bank → List (List RecordLine)
+abbrev pub records_of : BankContent → List (List RecordLine)
 records_of (Holds gate records) = records
 records_of (Faulty offset) = []
 
@@ -88,7 +88,7 @@ JournalAfter (Turned activation counts (Committed steps out)) old new = (lines :
 JournalAfter _ old new = new ≡ old
 
 -- the same by lines of a report, one after another
-abbrev pub KeepsJournal : List Line → (old new : Journal) → Type 0
+abbrev pub KeepsJournal : List ReportLine → (old new : Journal) → Type 0
 KeepsJournal [] old new = new ≡ old
 KeepsJournal (line.Stored number ∷ lines) old new = KeepsJournal lines (journal_emptied old) new
 KeepsJournal (line.Commit activation number steps out ∷ lines) old new = (added : List RecordLine) × KeepsJournal lines (journal_with old added) new

@@ -1,5 +1,5 @@
 -- What depends on sets of lines as sets alone: pages taken out, grants, and how many lines are written.
-use Rattle.desk_law.proofs.Common.{◌≡◌, refl, ℕ, ◌&&◌, not, if◌then◌else◌, Bool, false, List, [], ◌∷◌, ◌++◌, filter, ap, ◌∙◌, has, size, Lines, within_page, is_whole_page, lines_of_page, pages_of, has-append, size-alike, Grant, Attempt, grant_by, fine_grant_by, given, with_each, granted, to_read, lowered_pages, lowered, AreAlike, nat_tests, arith}
+use Rattle.desk_law.proofs.Common.{◌≡◌, refl, ℕ, ◌&&◌, not, if◌then◌else◌, Bool, false, List, [], ◌∷◌, ◌++◌, filter, ap, ◌∙◌, has, size, Lines, within_page, is_whole_page, lines_of_page, pages_of, has-append, size-alike, Grant, InFlight, grant_by, fine_grant_by, given_by_locks, with_each, granted, to_read, lowered_pages, lowered, AreAlike, nat_tests, arith}
 use Rattle.desk_law.proofs.EachPage.{each-same}
 
 pub filter-same : (p q : ℕ → Bool) (xs : List ℕ) → ((x : ℕ) → p x ≡ q x) → filter p xs ≡ filter q xs
@@ -10,17 +10,17 @@ within-alike : (page : ℕ) (xs ys : List ℕ) → ((x : ℕ) → has xs x ≡ h
 within-alike page xs ys same = filter-same (has xs) (has ys) (lines_of_page page) same
 
 -- Grants by the kept locks are the desk's.
-pub granted-alike : (fine : ℕ → Bool) (attempt : Attempt) (locks due : Lines) (pages : List ℕ) (authority : List Grant) → AreAlike locks due
+pub granted-alike : (fine : ℕ → Bool) (attempt : InFlight) (locks due : Lines) (pages : List ℕ) (authority : List Grant) → AreAlike locks due
     → granted fine attempt locks pages authority ≡ granted fine attempt due pages authority
 granted-alike fine attempt locks due pages authority alike =
     grind (
       arith,
       nat_tests,
-      each-same (given fine attempt locks) (given fine attempt due) pages authority (λ page i. if fine page then fine_grant_by attempt.entry.number (has (pages_of attempt.lines.writes) page) (within-alike page locks.reads due.reads alike.reads i) (within-alike page locks.writes due.writes alike.writes i) else grant_by attempt.entry.number (within-alike page locks.reads due.reads alike.reads i) (within-alike page locks.writes due.writes alike.writes i)),
+      each-same (given_by_locks fine attempt locks) (given_by_locks fine attempt due) pages authority (λ page i. if fine page then fine_grant_by attempt.entry.number (has (pages_of attempt.lines.writes) page) (within-alike page locks.reads due.reads alike.reads i) (within-alike page locks.writes due.writes alike.writes i) else grant_by attempt.entry.number (within-alike page locks.reads due.reads alike.reads i) (within-alike page locks.writes due.writes alike.writes i)),
     )
 
 -- And so are the write bits that go off by them.
-pub lowered-alike : (fine : ℕ → Bool) (attempt : Attempt) (locks due : Lines) (authority : List Grant) → AreAlike locks due
+pub lowered-alike : (fine : ℕ → Bool) (attempt : InFlight) (locks due : Lines) (authority : List Grant) → AreAlike locks due
     → lowered fine attempt locks authority ≡ lowered fine attempt due authority
 lowered-alike fine attempt locks due authority alike =
     ap (λ (pages : List ℕ). with_each (to_read attempt locks) pages authority)

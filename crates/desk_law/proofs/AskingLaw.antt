@@ -1,5 +1,5 @@
 -- The desk that asks where it is refused does what the desk does.
-use Rattle.desk_law.proofs.Common.{◌≡◌, refl, ℕ, zero, suc, ◌+◌, ◌==◌, not, if◌then◌else◌, List, [], ◌∷◌, ◌++◌, length, find, Some, arith, ap, sym, subst, and_parts, Plain, after, Program, Event, Turn, Desk, Entry, opened, Word, Counts, Turning, Going, Over, attempts, refused_pages, conflicts_of, instruction, turns, step, IsAmong, IsConsistent, IsOrderly, Memory, after_event, after_turns, memory_of, IsMemory, FindTheirOwn, nat_tests, Turned, Committed, Machine, next_attempt, counts_refused, happening_lines, number_after, Step, asks_for, asks_refused, attempts_by, step_by, before, run_by, InstructionsAskAlike, IsRunOfDesk, RunsAskAlike, RunsStayConsistentBy, RunsAreIsolatedBy, SideBySideIsSerialBy, CommitsTellTheMachineBy, Line}
+use Rattle.desk_law.proofs.Common.{◌≡◌, refl, ℕ, zero, suc, ◌+◌, ◌==◌, not, if◌then◌else◌, List, [], ◌∷◌, ◌++◌, length, find, Some, arith, ap, sym, subst, and_parts, Plain, after, Program, Event, Turn, Desk, Active, opened, DiskWord, Counts, Turning, Going, Over, attempts, refused_pages, conflicts_of, instruction, turns, step, IsAmong, IsConsistent, IsOrderly, Memory, after_event, after_turns, opening_memory, IsMemory, FindTheirOwn, nat_tests, Turned, Committed, Machine, next_attempt, counts_refused, happening_lines, number_after, Step, asks_for, asks_refused, attempts_by, step_by, event_before, run_by, InstructionsAskAlike, IsRunOfDesk, RunsAskAlike, RunsStayConsistentBy, RunsAreIsolatedBy, SideBySideIsSerialBy, CommitsTellTheMachineBy, ReportLine}
 unfoldable use Rattle.desk_law.specs.Asking.{instruction_by, turns_by}
 use Rattle.desk_law.proofs.Entries.{orderly, among-found}
 use Rattle.desk_law.proofs.TurnsStay.{Stays, resident-consistent, stays-instruction}
@@ -7,7 +7,7 @@ use Rattle.desk_law.proofs.ConsistentLaw.{stays-consistent, runs-consistent}
 use Rattle.desk_law.proofs.MemoryLaw.{runs-are-isolated, commit-told, side_by_side_is_serial}
 use Rattle.desk_law.proofs.Unrefused.{unrefused-gets}
 
-module _ (word : Word) (entry : Entry) (now : Plain) where
+module _ (word : DiskWord) (entry : Active) (now : Plain) where
   -- once the pages are there
   asks-alike : (desk : Desk) (counts : Counts) → IsOrderly desk → IsAmong desk.active entry → after entry.runs.program entry.runs.args desk.committed entry.rows ≡ Some now
       → asks_refused word (next_attempt desk entry now) desk counts ≡ counts_refused word (next_attempt desk entry now) desk counts
@@ -35,15 +35,15 @@ GoesOrderly (Over desk counts ending) = Unit {0}
 goes-orderly : (number most : ℕ) (turning : Turning) → Stays number most turning → GoesOrderly turning
 goes-orderly number most turning stays = grind (arith, nat_tests)
 
-module _ (word : Word) (number : ℕ) where
+module _ (word : DiskWord) (number : ℕ) where
   -- one instruction of whoever has the number
   one-alike : (desk : Desk) (counts : Counts) → IsOrderly desk
-      → (instruction_by asks_refused word (find (λ (entry : Entry). entry.number == number) desk.active) desk counts ≡ instruction word (find (λ (entry : Entry). entry.number == number) desk.active) desk counts)
-      × GoesOrderly (instruction word (find (λ (entry : Entry). entry.number == number) desk.active) desk counts)
+      → (instruction_by asks_refused word (find (λ (entry : Active). entry.number == number) desk.active) desk counts ≡ instruction word (find (λ (entry : Active). entry.number == number) desk.active) desk counts)
+      × GoesOrderly (instruction word (find (λ (entry : Active). entry.number == number) desk.active) desk counts)
   unfolding instruction instruction_by
   one-alike desk counts is =
-      let found = among-found (λ (entry : Entry). entry.number == number) desk.active in
-      let goes = λ (entry : Entry) (here : IsAmong desk.active entry) (same : entry.number ≡ number). goes-orderly number (length counts.cycles + length desk.active) (instruction word (find (λ (entry : Entry). entry.number == number) desk.active) desk counts) (stays-instruction word number (length counts.cycles + length desk.active) desk counts is (entry, here, same) (omega arith)) in
+      let found = among-found (λ (entry : Active). entry.number == number) desk.active in
+      let goes = λ (entry : Active) (here : IsAmong desk.active entry) (same : entry.number ≡ number). goes-orderly number (length counts.cycles + length desk.active) (instruction word (find (λ (entry : Active). entry.number == number) desk.active) desk counts) (stays-instruction word number (length counts.cycles + length desk.active) desk counts is (entry, here, same) (omega arith)) in
       grind (arith, nat_tests, found, goes, instructions_alike word desk counts)
 
   turns-alike : (left : ℕ) (turning : Turning) (memory : Memory) → GoesOrderly turning → turns_by asks_refused word number left turning memory ≡ (turns word number left turning, after_turns word number left turning memory)
@@ -53,30 +53,30 @@ module _ (word : Word) (number : ℕ) where
   turns-alike zero (Over desk counts ending) memory is = refl
   turns-alike (suc left) (Over desk counts ending) memory is = refl
 
-module _ (programs : List Program) (word : Word) (desk : Desk) (memory : Memory) (is : IsOrderly desk) where
+module _ (programs : List Program) (word : DiskWord) (desk : Desk) (memory : Memory) (is : IsOrderly desk) where
   step-alike : (event : Event) → step_by asks_refused programs event word desk memory ≡ (step programs event word desk, if desk.closed then memory else after_event programs event word desk memory)
   step-alike event = grind (arith, nat_tests, turns-alike)
 
 -- a run of a consistent desk
-run-alike : (names : List (List ℕ)) (programs : List Program) (number : ℕ) (events : List (Event × Word)) (desk : Desk) (memory : Memory) → IsConsistent desk
+run-alike : (names : List (List ℕ)) (programs : List Program) (number : ℕ) (events : List (Event × DiskWord)) (desk : Desk) (memory : Memory) → IsConsistent desk
     → IsRunOfDesk names programs number events desk memory (run_by asks_refused names programs number events desk memory)
 run-alike names programs number [] desk memory is = record { desk_is = refl; memory_is = refl; opens = λ each. tt; lines_are = refl }
 run-alike names programs number (event ∷ events) desk memory is =
     let next = step programs event.0 event.1 desk in
     let changed = if desk.closed then memory else after_event programs event.0 event.1 desk memory in
     let later = run-alike names programs number events next.desk changed (stays-consistent programs event.0 event.1 desk is) in
-    subst (λ (both : Step × Memory). IsRunOfDesk names programs number (event ∷ events) desk memory (before names number desk both.0 (run_by asks_refused names programs number events both.0.desk both.1)))
+    subst (λ (both : Step × Memory). IsRunOfDesk names programs number (event ∷ events) desk memory (event_before names number desk both.0 (run_by asks_refused names programs number events both.0.desk both.1)))
     (sym (step-alike programs event.1 desk memory (orderly desk is) event.0))
     (record {
       desk_is = later.desk_is;
       memory_is = later.memory_is;
       opens = λ each. let parts = and_parts (not desk.closed) (run_by asks_refused names programs number events next.desk changed).each_open each in (parts.0, later.opens parts.1);
-      lines_are = ap (λ (lines : List Line). happening_lines names (number_after number next.desk) next.happening ++ lines) later.lines_are;
+      lines_are = ap (λ (lines : List ReportLine). happening_lines names (number_after number next.desk) next.happening ++ lines) later.lines_are;
     })
 
 pub runs_alike : RunsAskAlike
 runs_alike names programs number frames most_active most_lines store events whole two =
-    run-alike names programs number events (opened frames most_active most_lines store) (memory_of store) (runs-consistent programs frames most_active most_lines store [] whole two)
+    run-alike names programs number events (opened frames most_active most_lines store) (opening_memory store) (runs-consistent programs frames most_active most_lines store [] whole two)
 
 pub asking_consistent : RunsStayConsistentBy asks_refused
 asking_consistent names programs number frames most_active most_lines store events whole two =
@@ -94,7 +94,7 @@ asking_serial names programs number frames most_active most_lines store events w
 
 pub asking_told : CommitsTellTheMachineBy asks_refused
 asking_told names programs number frames most_active most_lines store events whole two activation limit word counts steps printed =
-    let ran = run_by asks_refused names programs number events (opened frames most_active most_lines store) (memory_of store) in
+    let ran = run_by asks_refused names programs number events (opened frames most_active most_lines store) (opening_memory store) in
     let is = asking_consistent names programs number frames most_active most_lines store events whole two in
     subst (λ (both : Step × Memory). both.0.happening ≡ Turned activation counts (Committed steps printed) → (machine : Machine) × (both.1.machines activation ≡ Some machine) × (machine.state.out ≡ printed))
     (sym (step-alike programs word ran.desk ran.memory (orderly ran.desk is) (Turn activation limit)))

@@ -9,9 +9,9 @@ pub use Rattle.std.proofs.lemmas.Option.{none-some, same_Some}
 pub use Rattle.std.specs.List.{flat_map, list_any, position_or_len, range_with_len, join_with_byte, starts_with}
 pub use Rattle.std.specs.Option.{option_map, option_map_or}
 pub use Rattle.std.specs.Prelude.{Bool, List, None, Option, Some, [], cond, drop, false, filter, find, fold, if◌then◌else◌, length, map, max, min, nat_lt, not, option_and_then, position, refl, remove, replicate, slice_get, slice_index, slice_index_or, slice_range, slice_set, suc, take, true, unwrap_or, zero, ℕ, ◌&&◌, ◌*◌, ◌++◌, ◌+◌, ◌-◌, ◌/◌, ◌<◌, ◌==◌, ◌||◌, ◌∷◌, ◌≡◌, ◌≤◌, ◌⊎◌, count_by, decimal, nat_eq, ◌%◌, ◌^◌}
-pub use Rattle.desk.specs.Desk.{Desk, Entry, ended, opened, rolled_back, with_entry}
+pub use Rattle.desk.specs.Desk.{Desk, Active, ended, opened, rolled_back, with_active}
 pub use Rattle.desk.specs.Holdings.{conflicts_of, conflicts_with, numbers, waits_for, wanted, requested, due_to}
-pub use Rattle.desk.specs.Instruction.{Attempt, Broken, Checked, CommitDoubted, CommitUnwritten, Committed, Contest, Contested, Counts, Disk, Doubt, Ending, Failed, Fetched, Fetching, Fine, Going, Idle, Journal, Limit, Lost, Over, ReadFailed, Settled, Turning, Unwritten, Victim, Waits, Word, asks, attempts, attempts_at, breaks, breaks_cycle, breaks_cycles, can't_be_read, commits, contest_ends, fetched_first, fetches, fetches_touched, gets, given, goes_on, granted, is_over_limit, limited, lines_within, lines_written, locks_with, lowered, lowered_pages, no_counts, ordered, refused_pages, refuses, takes_effect, to_read, touched_pages, turn, turn_of, waits_or_gets, with_each, with_grants, with_lowered, counts_refused}
+pub use Rattle.desk.specs.Instruction.{InFlight, Broken, Checked, CommitDoubted, CommitUnwritten, Committed, Contest, Contested, Counts, Disk, Doubt, Ending, Failed, Fetched, Fetching, Fine, Going, Idle, Journal, Limit, Lost, Over, ReadFailed, Settled, Turning, Unwritten, Victim, Waits, DiskWord, asks, attempts, attempts_at, breaks, breaks_cycle, breaks_cycles, can't_be_read, commits, contest_ends, fetched_first, fetches, fetches_touched, gets, given_by_locks, goes_on, granted, is_over_limit, limited, lines_within, lines_written, locks_with, lowered, lowered_pages, no_counts, ordered, refused_pages, refuses, takes_effect, to_read, touched_pages, turn, turn_of, waits_or_gets, with_each, with_grants, with_lowered, counts_refused}
 unfoldable pub use Rattle.desk.specs.Instruction.{instruction, turns}
 pub use Rattle.desk.specs.Run.{Busy, Nothing, Turned, absent_segment, begin_if, begins, event_of, restarted, run, step, turned, Step, Begun, CheckpointFailed, CheckpointMade, CrashFailed, Crashed, Happening, IsRunOf, NoSegment, OpenBeforeEach, faulted, is_fine}
 pub use Rattle.desk.specs.declared.event.Event.{Event}
@@ -20,7 +20,7 @@ pub use Rattle.flat_machine.proofs.Agreement.{after-kept, after-whole, agreement
 pub use Rattle.flat_machine.proofs.Steps.{touched-below, on, row-way, Keeps, Steps, lines_of_plan, row-steps}
 pub use Rattle.flat_machine.proofs.Ranges.{in_line, part}
 pub use Rattle.flat_machine.specs.After.{after, next_state, start}
-pub use Rattle.flat_machine.specs.Agreement.{AgreeBut, DoesTheSame, SameWay, all_of, line_in}
+pub use Rattle.flat_machine.specs.Agreement.{AgreeBut, DoesTheSame, SameWay, all_of, flat_line}
 pub use Rattle.flat_machine.specs.Due.{due_locks, touched_next, touched_within}
 pub use Rattle.flat_machine.specs.Row.{Check, Commit, On, Outcome, plan_at, row}
 pub use Rattle.flat_machine.specs.Touched.{touched, touched_by}
@@ -28,8 +28,8 @@ pub use Rattle.flat_machine.specs.declared.machine.Plain.{Plain}
 pub use Rattle.flat_machine.specs.Plans.{Plan, Does, Fails}
 pub use Rattle.flat_machine.specs.declared.machine.Program.{Program}
 pub use Rattle.lines.specs.Directory.{Layout, byte_count, is_fine_page, page_count}
-pub use Rattle.lines.specs.FlatStore.{FlatStore, IsWhole}
-pub use Rattle.lines.specs.Lines.{line_count}
+pub use Rattle.lines.specs.FlatStore.{FlatStore, IsWholeStore}
+pub use Rattle.lines.specs.FlatLines.{line_count}
 pub use Rattle.lines.specs.Segments.{line_bytes}
 pub use Rattle.lines.proofs.CycleLemmas.{after-among, any-named, find-named, found-has, found-passes}
 pub use Rattle.lines.proofs.ConflictLemmas.{ArePart, any-or, has-pages_of, has-whole, has-whole_pages, has-within_page, meets-at, pages_of-line, part-both, part-whole_pages, reaches, reaches-coarse, whole-has, whole-reached}
@@ -40,22 +40,22 @@ pub use Rattle.lines.specs.Conflicts.{Lines, both, conflicts, is_whole_page, lin
 pub use Rattle.lines.specs.Resident.{brought, first_out, taken_out}
 pub use Rattle.lines.specs.Sets.{has, meets, size}
 pub use Rattle.lines.specs.Waits.{leads, next_shown, shown_after, shown_cycle, victim_of}
-pub use Rattle.desk_law.specs.Beside.{AreAlike, AreKept, AreMarked, AreSeats, AreStates, AreStatesBut, AreThere, IsThere, IsLaid, IsState, IsTableBut, IsTold, Reads, StandsFor, by_number, kept_conflict, kept_waits, over_all, owner_told, owners_told}
-pub use Rattle.desk_law.specs.Causes.{EndsHaveCauses, EndsForCause, IsAccounted, IsOverFor, RowIs, TurnsEndForCause, turn_desk, ends_own, lines_by, turn_counts, waiting_after}
-pub use Rattle.desk_law.specs.Changes.{committed_at, gone_on, left_by, row_done}
-pub use Rattle.desk_law.specs.Consistent.{AreApart, AreConsistent, AreDistinct, AreResident, Ascend, HasNoCycle, IsAmong, IsConsistent, IsCovered, IsHeld, IsLive, IsOwned}
-pub use Rattle.desk_law.specs.Current.{IsCurrent, bytes_of, current, current_bytes, current_of, writer}
-pub use Rattle.desk_law.specs.Laws.{ArePermitted, BrokenCyclesWere, ContestedCyclesClose, EachWaits, EndsWith, FineRowsAskForTheirLines, IdleWhereInactive, IsActive, IsNotIdle, PermittedIsFree, RunsStayConsistent, SomebodyCanGoOn, StaysConsistent, WriteBitsHoldPages, contest_counts, next_attempt, UnrefusedAsksNothing}
-pub use Rattle.desk_law.specs.Memory.{CommitsTellTheMachine, FindTheirOwn, IsAlone, IsMemory, Machine, Memory, RunsAreIsolated, SideBySideIsSerial, after_event, after_instruction, after_turns, commit_of, does_row, first_machine, given_back, laid, memory_after, memory_of, row_of, went_on, with_machine, wrote_by}
+pub use Rattle.desk_law.specs.Beside.{AreAlike, AreTablesKept, AreWrittenMarked, AreSeats, AreStates, AreStatesBut, AreLinesThere, IsThere, AreLinesLaid, IsState, IsTableBut, IsTableTold, Reads, StandsFor, by_number, kept_conflict, kept_waits, over_all, owner_told, owners_told}
+pub use Rattle.desk_law.specs.Causes.{EndsHaveCauses, EndsForCause, IsAccounted, IsOverFor, RowIs, TurnsEndForCause, turn_desk, ends_own, written_after, turn_counts, waiting_after}
+pub use Rattle.desk_law.specs.Changes.{committed_at, gone_on, committed_by, row_done}
+pub use Rattle.desk_law.specs.Consistent.{AreLinesApart, AreConsistent, AreDistinct, AreResident, NumbersAscend, HasNoCycle, IsAmong, IsConsistent, IsCovered, IsHeld, IsLive, IsOwned}
+pub use Rattle.desk_law.specs.Current.{IsCurrent, bytes_seen, current, current_bytes, current_of, writer}
+pub use Rattle.desk_law.specs.DeskLaws.{ArePermitted, BrokenCyclesWere, ContestedCyclesClose, EachWaits, IsLast, FineRowsAskForTheirLines, IdleWhereInactive, IsActive, IsNotIdle, PermittedIsFree, RunsStayConsistent, SomebodyCanGoOn, StaysConsistent, WriteBitsHoldPages, contest_counts, next_attempt, UnrefusedAsksNothing}
+pub use Rattle.desk_law.specs.Memory.{CommitsTellTheMachine, FindTheirOwn, IsAlone, IsMemory, Machine, Memory, RunsAreIsolated, SideBySideIsSerial, after_event, after_instruction, after_turns, commit_of, does_row, first_machine, given_back, laid_lines, memory_after, opening_memory, row_of, memory_went_on, with_machine, wrote_by}
 pub use Rattle.desk_law.specs.Orderly.{IsOrderly}
-pub use Rattle.desk_law.specs.UnderWay.{IsContending, IsReady, IsUnderWay, KeepsPages, contest, except, marked, served_attempt, touched_of}
+pub use Rattle.desk_law.specs.UnderWay.{IsContending, MayGoOn, IsUnderWay, KeepsPages, contest, except, marked_waiting, served_attempt, touched_of}
 pub use Rattle.desk.specs.Commits.{IsSerial, begun, is_commit}
-pub use Rattle.desk.specs.Report.{event_lines, happening_lines, number_after, closing_lines, cycle_lines, ending_lines, lines_from, report, turn_lines}
-pub use Rattle.desk_law.specs.Asking.{Asking, CommitsTellTheMachineBy, InstructionsAskAlike, IsRunOfDesk, Ran, RunsAreIsolatedBy, RunsAskAlike, RunsStayConsistentBy, SideBySideIsSerialBy, asks_for, asks_refused, attempts_by, before, comes_to_ask, event_by, own_event, run_by, step_by, turned_with}
+pub use Rattle.desk.specs.Report.{event_lines, happening_lines, number_after, closing_lines, cycle_lines, ending_lines, run_lines, report, turn_lines}
+pub use Rattle.desk_law.specs.Asking.{Asking, CommitsTellTheMachineBy, InstructionsAskAlike, IsRunOfDesk, RunState, RunsAreIsolatedBy, RunsAskAlike, RunsStayConsistentBy, SideBySideIsSerialBy, asks_for, asks_refused, attempts_by, event_before, comes_to_ask, event_by, own_event, run_by, step_by, turned_with}
 pub use Rattle.std.proofs.lemmas.List.Folds.{list_any-append}
 pub use Rattle.std.proofs.lemmas.List.Sums.{sum_by-append}
 pub use Rattle.desk.specs.Crash.{IsEitherOf, fine_step, standing_of}
-pub use Rattle.desk.specs.Lines.{Line, Open, line_text, printed}
+pub use Rattle.desk.specs.ReportLines.{ReportLine, Open, line_text, printed}
 pub use Rattle.desk.specs.Seen.{IsUnbroken, commits_seen, whole_lines}
 pub use Rattle.flat_machine.specs.Serial.{Activation, serial}
 pub use Rattle.store_format.specs.Stands.{Stands}

@@ -1,5 +1,5 @@
 -- A consistent desk stays so.
-use Rattle.desk_law.proofs.Common.{◌≡◌, refl, ℕ, ◌+◌, ◌<◌, ◌==◌, true, List, [], ◌∷◌, length, find, Option, Some, None, slice_get, arith, eqb-true, eq-eqb, both_ways, page_count, Program, Event, Begin, Turn, Checkpoint, Crash, Desk, Entry, Word, Failed, Counts, Turning, Going, instruction, turns, turn, no_counts, turned, begin_if, restarted, event_of, step, run, IsAmong, Ascend, IsConsistent, turn_desk, StaysConsistent, IsActive, IdleWhereInactive, RunsStayConsistent, IsOrderly, nat_tests}
+use Rattle.desk_law.proofs.Common.{◌≡◌, refl, ℕ, ◌+◌, ◌<◌, ◌==◌, true, List, [], ◌∷◌, length, find, Option, Some, None, slice_get, arith, eqb-true, eq-eqb, both_ways, page_count, Program, Event, Begin, Turn, Checkpoint, Crash, Desk, Active, DiskWord, Failed, Counts, Turning, Going, instruction, turns, turn, no_counts, turned, begin_if, restarted, event_of, step, run, IsAmong, NumbersAscend, IsConsistent, turn_desk, StaysConsistent, IsActive, IdleWhereInactive, RunsStayConsistent, IsOrderly, nat_tests}
 use Rattle.desk_law.proofs.Entries.{orderly, among-found, none-found, found-among}
 use Rattle.desk_law.proofs.Endings.{begins-consistent, refused-consistent, quiet-consistent, opened-consistent}
 use Rattle.desk_law.proofs.TurnsStay.{Stays, stays-turns, stays-instruction}
@@ -14,14 +14,14 @@ pub consistent : (desk : Desk) → IsOrderly desk → Fits desk → IsConsistent
 consistent desk is fit = grind (arith, nat_tests)
 
 -- a number has no entry where it isn't active
-pub inactive-none : (desk : Desk) (number : ℕ) → (IsActive desk number → ⊥) → find (λ (entry : Entry). entry.number == number) desk.active ≡ None
+pub inactive-none : (desk : Desk) (number : ℕ) → (IsActive desk number → ⊥) → find (λ (entry : Active). entry.number == number) desk.active ≡ None
 inactive-none desk number inactive =
-    let among = among-found (λ (entry : Entry). entry.number == number) desk.active in
-    let none = λ (entry : Entry) (found : find (λ (entry : Entry). entry.number == number) desk.active ≡ Some entry). inactive (entry, (among entry found).0, eqb-true entry.number number (among entry found).1) in
+    let among = among-found (λ (entry : Active). entry.number == number) desk.active in
+    let none = λ (entry : Active) (found : find (λ (entry : Active). entry.number == number) desk.active ≡ Some entry). inactive (entry, (among entry found).0, eqb-true entry.number number (among entry found).1) in
     grind (arith, none)
 
 -- a turn of an active number
-turn-stays : (word : Word) (number limit : ℕ) (desk : Desk) → IsOrderly desk → IsActive desk number → Stays number (length desk.active) (turns word number limit (Going desk no_counts))
+turn-stays : (word : DiskWord) (number limit : ℕ) (desk : Desk) → IsOrderly desk → IsActive desk number → Stays number (length desk.active) (turns word number limit (Going desk no_counts))
 turn-stays word number limit desk is active = stays-turns word number (length desk.active) limit (Going desk no_counts) (is, active, omega arith)
 
 pub idle-where-inactive : IdleWhereInactive
@@ -30,14 +30,14 @@ idle-where-inactive word number limit desk is = grind (arith, nat_tests, inactiv
 stays-turned : (activation most : ℕ) (turning : Turning) → Stays activation most turning → TurnFits turning → IsConsistent (turned activation turning).desk
 stays-turned activation most turning is fit = grind (arith, nat_tests, consistent)
 
-stays-turn : (word : Word) (activation limit : ℕ) (desk : Desk) → IsConsistent desk → IsConsistent (turned activation (turn word activation limit desk)).desk
+stays-turn : (word : DiskWord) (activation limit : ℕ) (desk : Desk) → IsConsistent desk → IsConsistent (turned activation (turn word activation limit desk)).desk
 stays-turn word activation limit desk is =
-    let among = among-found (λ (entry : Entry). entry.number == activation) desk.active in
-    let stays = λ (entry : Entry) (found : find (λ (entry : Entry). entry.number == activation) desk.active ≡ Some entry). stays-turned activation (length desk.active) (turns word activation limit (Going desk no_counts)) (turn-stays word activation limit desk (orderly desk is) (entry, (among entry found).0, eqb-true entry.number activation (among entry found).1)) (fits-turns word activation limit (Going desk no_counts) (fits desk is)) in
+    let among = among-found (λ (entry : Active). entry.number == activation) desk.active in
+    let stays = λ (entry : Active) (found : find (λ (entry : Active). entry.number == activation) desk.active ≡ Some entry). stays-turned activation (length desk.active) (turns word activation limit (Going desk no_counts)) (turn-stays word activation limit desk (orderly desk is) (entry, (among entry found).0, eqb-true entry.number activation (among entry found).1)) (fits-turns word activation limit (Going desk no_counts) (fits desk is)) in
     grind (arith, is, stays)
 
 -- an instruction of an active entry leaves a consistent desk, whatever it comes to
-pub instruction-consistent : (word : Word) (desk : Desk) (counts : Counts) (entry : Entry) → IsConsistent desk → IsAmong desk.active entry → IsConsistent (turn_desk (instruction word (Some entry) desk counts))
+pub instruction-consistent : (word : DiskWord) (desk : Desk) (counts : Counts) (entry : Active) → IsConsistent desk → IsAmong desk.active entry → IsConsistent (turn_desk (instruction word (Some entry) desk counts))
 instruction-consistent word desk counts entry is here =
     let stays = stays-instruction word entry.number (length counts.cycles + length desk.active) desk counts (orderly desk is) (entry, here, refl) (omega arith) in
     grind (arith, nat_tests, consistent, stays, found-among desk.next desk.active entry is.active.ascend here, fits-instruction word (Some entry) desk counts (fits desk is))
@@ -57,7 +57,7 @@ stays-crash desk is =
     consistent (restarted desk) (quiet-consistent (restarted desk) is.whole (positive 0 desk.active is.active.ascend) refl refl)
     (record { frames = is.frames; resident = none-resident desk.frames (page_count desk.committed.directory) })
   where
-    positive : (low : ℕ) (entries : List Entry) → Ascend low entries desk.next → 0 < desk.next
+    positive : (low : ℕ) (entries : List Active) → NumbersAscend low entries desk.next → 0 < desk.next
     positive low [] up = omega (arith, up)
     positive low (entry ∷ entries) up = positive entry.number entries up.1
 
@@ -66,7 +66,7 @@ shut-consistent : (desk : Desk) → IsConsistent desk → IsConsistent (record d
 shut-consistent desk is = record { whole = is.whole; frames = is.frames; resident = is.resident; few = is.few; active = is.active; held = is.held; no_cycle = is.no_cycle }
 
 -- an event of an open desk
-stays-event : (programs : List Program) (event : Event) (word : Word) (desk : Desk) → IsConsistent desk → IsConsistent (event_of programs event word desk).desk
+stays-event : (programs : List Program) (event : Event) (word : DiskWord) (desk : Desk) → IsConsistent desk → IsConsistent (event_of programs event word desk).desk
 stays-event programs (Begin program args) word desk is = stays-begin program args (slice_get programs program) desk is
 stays-event programs (Turn activation limit) word desk is = stays-turn word activation limit desk is
 stays-event programs Checkpoint Failed desk is = shut-consistent desk is
@@ -79,7 +79,7 @@ pub stays-consistent : StaysConsistent
 stays-consistent programs event word desk is = grind (arith, nat_tests, stays-event programs event word desk is)
 
 -- a run of a consistent desk
-pub run-consistent : (programs : List Program) (events : List (Event × Word)) (desk : Desk) → IsConsistent desk → IsConsistent (run programs events desk)
+pub run-consistent : (programs : List Program) (events : List (Event × DiskWord)) (desk : Desk) → IsConsistent desk → IsConsistent (run programs events desk)
 run-consistent programs [] desk is = is
 run-consistent programs (event ∷ events) desk is =
     run-consistent programs events (step programs event.0 event.1 desk).desk (stays-consistent programs event.0 event.1 desk is)

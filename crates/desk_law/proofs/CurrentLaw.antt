@@ -1,5 +1,5 @@
 -- The laws of the bytes as they are now.
-use Rattle.desk_law.proofs.Common.{◌≡◌, ℕ, ◌+◌, if◌then◌else◌, Bool, [], ◌++◌, Some, arith, has, size, Plain, On, row, after, line_in, Desk, Entry, with_entry, wanted, conflicts_of, IsWhole, gone_on, IsAmong, AreConsistent, current, current_bytes, touched_of, nat_tests}
+use Rattle.desk_law.proofs.Common.{◌≡◌, ℕ, ◌+◌, if◌then◌else◌, Bool, [], ◌++◌, Some, arith, has, size, Plain, On, row, after, flat_line, Desk, Active, with_active, wanted, conflicts_of, IsWholeStore, gone_on, IsAmong, AreConsistent, current, current_bytes, touched_of, nat_tests}
 use Rattle.desk_law.specs.CurrentLaws.{OneListIsCurrent, HoldersSeeCurrent, RowsChangeTheirLines, RowsRunOnCurrent, CommitsChangeNoLine, RollbacksGiveBack, CommitsLeaveOthers}
 use Rattle.desk_law.proofs.Entries.{replaced}
 use Rattle.desk_law.proofs.Others.{another-same, after-row}
@@ -9,7 +9,7 @@ use Rattle.desk_law.proofs.CurrentBytes.{bytes-current, one-current}
 use Rattle.desk_law.proofs.SharedBytes.{RunsOn, row-on-current}
 
 -- a row of an entry, whose mark may be another one than it has
-module _ (desk : Desk) (most : ℕ) (entry : Entry) (mark : Bool) (now next : Plain) (whole : IsWhole desk.committed)
+module _ (desk : Desk) (most : ℕ) (entry : Active) (mark : Bool) (now next : Plain) (whole : IsWholeStore desk.committed)
     (are : AreConsistent desk.committed most desk.next desk.active) (here : IsAmong desk.active (record entry { waiting = mark }))
     (at : after entry.runs.program entry.runs.args desk.committed entry.rows ≡ Some now)
     (went : row entry.runs.program desk.committed.directory now ≡ On next) (none : conflicts_of desk entry ≡ []) where
@@ -23,8 +23,8 @@ module _ (desk : Desk) (most : ℕ) (entry : Entry) (mark : Bool) (now next : Pl
   then-active : AreConsistent desk.committed many desk.next (replaced (gone_on entry) desk.active)
   then-active = gone-on-active desk many entry mark now next now-active here at went none (omega arith)
 
-  pub row-changes : (line : ℕ) → current (with_entry desk (gone_on entry)) line
-      ≡ (if has (wanted desk entry).writes line then line_in desk.committed.directory next.store line else current desk line)
+  pub row-changes : (line : ℕ) → current (with_active desk (gone_on entry)) line
+      ≡ (if has (wanted desk entry).writes line then flat_line desk.committed.directory next.store line else current desk line)
   row-changes line =
       let gone = after-row desk.committed entry now next at went in
       let writes = row-writes desk.committed many desk.next desk.active (record entry { waiting = mark }) next line then-active here gone in
@@ -32,11 +32,11 @@ module _ (desk : Desk) (most : ℕ) (entry : Entry) (mark : Bool) (now next : Pl
       grind (arith, nat_tests, writes, leaves)
 
   pub row-runs : row entry.runs.program desk.committed.directory (record now { store = current_bytes desk })
-      ≡ On (record next { store = current_bytes (with_entry desk (gone_on entry)) })
+      ≡ On (record next { store = current_bytes (with_active desk (gone_on entry)) })
   row-runs =
       let runs : RunsOn desk.committed desk.active (record entry { waiting = mark }) now next (current_bytes desk) =
       row-on-current desk many (record entry { waiting = mark }) now next (current_bytes desk) whole now-active then-active here at went none (bytes-current desk whole) in
-      cc (runs.went, one-current desk.committed (replaced (gone_on entry) desk.active) runs.other (current_bytes (with_entry desk (gone_on entry))) runs.is_current (bytes-current (with_entry desk (gone_on entry)) whole))
+      cc (runs.went, one-current desk.committed (replaced (gone_on entry) desk.active) runs.other (current_bytes (with_active desk (gone_on entry))) runs.is_current (bytes-current (with_active desk (gone_on entry)) whole))
 
 pub one-list-is-current : OneListIsCurrent
 one-list-is-current desk is =

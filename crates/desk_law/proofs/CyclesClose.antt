@@ -1,5 +1,5 @@
 -- A shown cycle closes, where only the waits of its number close one.
-use Rattle.desk_law.proofs.Common.{◌≡◌, refl, ℕ, zero, suc, ◌≤◌, ◌==◌, ◌&&◌, Bool, true, false, List, [], ◌∷◌, length, filter, find, Option, Some, None, arith, ◌∙◌, and_from, has, leads, next_shown, shown_after, shown_cycle, found-has, found-passes, has-filter, Desk, Entry, with_entry, numbers, waits_for, Counts, Contested, breaks_cycles, IsAmong, HasNoCycle, EndsWith, ContestedCyclesClose, except, IsContending, nat_tests, Contest, contest, subst}
+use Rattle.desk_law.proofs.Common.{◌≡◌, refl, ℕ, zero, suc, ◌≤◌, ◌==◌, ◌&&◌, Bool, true, false, List, [], ◌∷◌, length, filter, find, Option, Some, None, arith, ◌∙◌, and_from, has, leads, next_shown, shown_after, shown_cycle, found-has, found-passes, has-filter, Desk, Active, with_active, numbers, waits_for, Counts, Contested, breaks_cycles, IsAmong, HasNoCycle, IsLast, ContestedCyclesClose, except, IsContending, nat_tests, Contest, contest, subst}
 use Rattle.desk_law.proofs.Entries.{orderly, new-among}
 use Rattle.desk_law.proofs.Walks.{first-step, one-step, leads-more, walk-short, all-pass}
 use Rattle.desk_law.proofs.SomebodyGoesOn.{reached, leads-to-fewer}
@@ -40,7 +40,7 @@ module _ (waits : ℕ → ℕ → Bool) (all : List ℕ) (first : ℕ) (none : H
 
   -- from a member on: so many steps are enough
   after-closes : (steps last : ℕ) → has all last ≡ true → (last == first) ≡ false → leads waits all (length all) last first ≡ true
-      → length (filter (reached (except first waits) all last) all) ≤ steps → EndsWith first (last ∷ shown_after waits all steps first last)
+      → length (filter (reached (except first waits) all last) all) ≤ steps → IsLast first (last ∷ shown_after waits all steps first last)
   after-closes zero last inside apart walk few = absurd (empty (filter (reached (except first waits) all last) all) few there)
     where
       there : has (filter (reached (except first waits) all last) all) first ≡ true
@@ -54,19 +54,19 @@ module _ (waits : ℕ → ℕ → Bool) (all : List ℕ) (first : ℕ) (none : H
       grind (arith, nat_tests, next-there last walk, found-passes test all, found-has test all, leads-to-fewer (except first waits) all none last, after-closes steps)
 
   -- and from the first on
-  pub first-closes : (steps : ℕ) → length all ≡ steps → EndsWith first (first ∷ shown_after waits all steps first first)
+  pub first-closes : (steps : ℕ) → length all ≡ steps → IsLast first (first ∷ shown_after waits all steps first first)
   first-closes zero few = grind (arith, nat_tests)
   first-closes (suc steps) few = grind (arith, nat_tests, reached, all-pass, next-there, found-passes, found-has, after-closes)
 
-shown-closes : (waits : ℕ → ℕ → Bool) (all : List ℕ) (first : ℕ) (cycle : List ℕ) → HasNoCycle (except first waits) all → has all first ≡ true → shown_cycle waits all first ≡ Some cycle → EndsWith first cycle
+shown-closes : (waits : ℕ → ℕ → Bool) (all : List ℕ) (first : ℕ) (cycle : List ℕ) → HasNoCycle (except first waits) all → has all first ≡ true → shown_cycle waits all first ≡ Some cycle → IsLast first cycle
 shown-closes waits all first cycle none here is = grind (arith, nat_tests, first-closes)
 
 -- every round of a contest leaves only cycles by waits of who asks
-abbrev Contends : Entry → Contest → Type 0
+abbrev Contends : Active → Contest → Type 0
 Contends entry (Contested desk counts) = IsContending entry.number desk × IsAmong desk.active entry
 Contends entry contest = Unit {0}
 
-contest-rounds : (rounds : ℕ) (entry : Entry) (desk met : Desk) (counts counted : Counts) → IsContending entry.number desk → IsAmong desk.active entry
+contest-rounds : (rounds : ℕ) (entry : Active) (desk met : Desk) (counts counted : Counts) → IsContending entry.number desk → IsAmong desk.active entry
     → breaks_cycles rounds entry.number (Contested desk counts) ≡ Contested met counted → IsContending entry.number met × IsAmong met.active entry
 contest-rounds rounds entry desk met counts counted is here comes =
     subst (Contends entry) comes (victims-keep (Contends entry) entry.number (λ desk counts is. tt) by_victim rounds (Contested desk counts) (is, here))
@@ -80,6 +80,6 @@ pub contested_cycles_close : ContestedCyclesClose
 contested_cycles_close desk met entry counts counted rounds cycle is here comes shown =
     let marked = record entry { waiting = true } in
     let (contends, there) =
-    contest-rounds rounds marked (with_entry desk marked) met counts counted (marked-contending desk entry true here (contending entry.number desk (orderly desk is)))
+    contest-rounds rounds marked (with_active desk marked) met counts counted (marked-contending desk entry true here (contending entry.number desk (orderly desk is)))
     (new-among marked desk.active entry here refl) comes in
     shown-closes (waits_for met) (numbers met) entry.number cycle contends.no_cycle (has-number met.active marked there) shown

@@ -1,5 +1,5 @@
 -- A commit, a begin and a crash leave the desk consistent.
-use Rattle.desk_law.proofs.Common.{Some, ◌≡◌, refl, ℕ, zero, suc, ◌+◌, ◌<◌, ◌==◌, not, Bool, true, false, List, [], ◌∷◌, ◌++◌, length, map, replicate, slice_index_or, None, arith, ap, sym, ◌∙◌, subst, inl, inr, both_ways, or_from, and_right, false_from_ne_true, page_count, FlatStore, IsWhole, has, meets, no_lines, conflicts, append-nil, leads, Plain, start, after, Commit, row, after-whole, Desk, Entry, Grant, nobody, opened, rolled_back, ended, wanted, requested, conflicts_with, numbers, waits_for, Attempt, absent_segment, committed_at, gone_on, left_by, IsAmong, Ascend, due_to, IsLive, AreApart, AreConsistent, IsCovered, IsOwned, IsHeld, IsOrderly, except, nat_tests, Activation}
+use Rattle.desk_law.proofs.Common.{Some, ◌≡◌, refl, ℕ, zero, suc, ◌+◌, ◌<◌, ◌==◌, not, Bool, true, false, List, [], ◌∷◌, ◌++◌, length, map, replicate, slice_index_or, None, arith, ap, sym, ◌∙◌, subst, inl, inr, both_ways, or_from, and_right, false_from_ne_true, page_count, FlatStore, IsWholeStore, has, meets, no_lines, conflicts, append-nil, leads, Plain, start, after, Commit, row, after-whole, Desk, Active, Grant, nobody, opened, rolled_back, ended, wanted, requested, conflicts_with, numbers, waits_for, InFlight, absent_segment, committed_at, gone_on, committed_by, IsAmong, NumbersAscend, due_to, IsLive, AreLinesApart, AreConsistent, IsCovered, IsOwned, IsHeld, IsOrderly, except, nat_tests, Activation}
 use Rattle.desk_law.proofs.Entries.{among-push, push-among, ascend-push, between, one-entry, among-replaced, replaced-among, new-among, replaced, filter-short}
 use Rattle.desk_law.proofs.Walks.{no-cycle-fewer, no-cycle-leaves, first-step, one-step}
 use Rattle.desk_law.proofs.Others.{among-others, others, another-stays, commit-leaves, rollback-leaves}
@@ -10,9 +10,9 @@ use Rattle.desk_law.proofs.GoesOn.{IsGranted, others-replaced, due-more}
 use Rattle.desk_law.proofs.LeftLemmas.{went}
 
 -- One that was granted pages has gone: its store keeps what is due to the others, and whoever waits then did so before.
-granted-gone : (desk : Desk) (attempt : Attempt) (store : FlatStore) (resident : List ℕ) → IsGranted attempt desk → IsWhole store → store.directory ≡ desk.committed.directory
+granted-gone : (desk : Desk) (attempt : InFlight) (store : FlatStore) (resident : List ℕ) → IsGranted attempt desk → IsWholeStore store → store.directory ≡ desk.committed.directory
     → AreConsistent store desk.most_lines desk.next (others attempt.entry desk.active)
-    → ((other : Entry) → IsAmong (others attempt.entry desk.active) other → due_to store other ≡ due_to desk.committed other)
+    → ((other : Active) → IsAmong (others attempt.entry desk.active) other → due_to store other ≡ due_to desk.committed other)
     → ((from to : ℕ) → waits_for (record (ended desk attempt.entry.number) { committed = store; resident = resident }) from to ≡ true → waits_for desk from to ≡ true)
     → IsOrderly (record (ended desk attempt.entry.number) { committed = store; resident = resident })
 granted-gone desk attempt store resident is whole one_directory active due waits =
@@ -21,28 +21,28 @@ granted-gone desk attempt store resident is whole one_directory active due waits
     gone-consistent attempt.entry.number later
     (record {
       whole = whole;
-      few = omega (arith, is.few, filter-short (λ (other : Entry). not (other.number == attempt.entry.number)) desk.active);
+      few = omega (arith, is.few, filter-short (λ (other : Active). not (other.number == attempt.entry.number)) desk.active);
       active = active;
       held =
-          subst (λ (these : List Entry). IsHeld store these (map (freed attempt.entry.number) desk.authority)) same
-          (held-others desk.committed store _ desk.authority attempt.entry one_directory (λ other among. due other (subst (λ (these : List Entry). IsAmong these other) same among)) is.held_others);
+          subst (λ (these : List Active). IsHeld store these (map (freed attempt.entry.number) desk.authority)) same
+          (held-others desk.committed store _ desk.authority attempt.entry one_directory (λ other among. due other (subst (λ (these : List Active). IsAmong these other) same among)) is.held_others);
       no_cycle =
           no-cycle-fewer (except attempt.entry.number (waits_for later)) (except attempt.entry.number (waits_for desk)) (numbers later) (numbers desk)
-          (λ from to waited. grind (arith, nat_tests, waits from to)) (λ x inside. fewer-numbers (λ (other : Entry). not (other.number == attempt.entry.number)) desk.active x inside) is.no_cycle;
+          (λ from to waited. grind (arith, nat_tests, waits from to)) (λ x inside. fewer-numbers (λ (other : Active). not (other.number == attempt.entry.number)) desk.active x inside) is.no_cycle;
     })
     (λ other among. (among-others attempt.entry desk.active other among).1)
 
 -- a rollback after the pages were granted
-pub granted-rolled : (desk : Desk) (attempt : Attempt) → IsGranted attempt desk → IsOrderly (rolled_back desk attempt.entry)
+pub granted-rolled : (desk : Desk) (attempt : InFlight) → IsGranted attempt desk → IsOrderly (rolled_back desk attempt.entry)
 granted-rolled desk attempt is =
     granted-gone desk attempt desk.committed (rolled_back desk attempt.entry).resident is is.whole refl (rollback-leaves desk.committed desk.most_lines desk.next desk.active attempt.entry is.active)
     (λ other among. refl) (rollback-waits desk attempt.entry)
 
 -- a commit
-pub granted-commits : (desk : Desk) (attempt : Attempt) → IsGranted attempt desk → IsOrderly (committed_at desk attempt.entry attempt.now)
+pub granted-commits : (desk : Desk) (attempt : InFlight) → IsGranted attempt desk → IsOrderly (committed_at desk attempt.entry attempt.now)
 granted-commits desk attempt is =
     let entry = record attempt.entry { waiting = is.mark } in
-    granted-gone desk attempt (left_by desk.committed attempt.now) desk.resident is
+    granted-gone desk attempt (committed_by desk.committed attempt.now) desk.resident is
     (after-whole attempt.entry.runs.program attempt.entry.runs.args desk.committed attempt.entry.rows attempt.now is.whole is.now) refl
     (commit-leaves desk.committed desk.most_lines desk.next desk.active entry attempt.now is.whole is.active is.here is.now)
     (λ other among.
@@ -51,12 +51,12 @@ granted-commits desk attempt is =
     (λ from to. commit-waits desk entry attempt.now from to is.whole is.active is.here is.now)
 
 -- the commit call touches nothing
-pub wanted-commit : (desk : Desk) (entry : Entry) (now : Plain) → after entry.runs.program entry.runs.args desk.committed entry.rows ≡ Some now
+pub wanted-commit : (desk : Desk) (entry : Active) (now : Plain) → after entry.runs.program entry.runs.args desk.committed entry.rows ≡ Some now
     → row entry.runs.program desk.committed.directory now ≡ Commit → wanted desk entry ≡ no_lines
 wanted-commit desk entry now at is = grind (arith, nat_tests)
 
 -- a commit that isn't done leaves entries and authority
-pub granted-closes : (desk : Desk) (attempt : Attempt) → IsGranted attempt desk → attempt.outcome ≡ Commit → IsOrderly desk
+pub granted-closes : (desk : Desk) (attempt : InFlight) → IsGranted attempt desk → attempt.outcome ≡ Commit → IsOrderly desk
 granted-closes desk attempt is went = record {
   whole = is.whole;
   few = is.few;
@@ -78,11 +78,11 @@ granted-closes desk attempt is went = record {
     owned : (page : ℕ) → IsOwned (replaced (gone_on attempt.entry) desk.active) (slice_index_or desk.authority page nobody) → IsOwned desk.active (slice_index_or desk.authority page nobody)
     owned page (inl none) = inl none
     owned page (inr some) = elim (among-replaced (gone_on attempt.entry) desk.active some.0 some.1) [
-      | inl new ↦ inr (record attempt.entry { waiting = is.mark }, is.here, some.2 ∙ ap (λ (x : Entry). x.number) (sym new))
+      | inl new ↦ inr (record attempt.entry { waiting = is.mark }, is.here, some.2 ∙ ap (λ (x : Active). x.number) (sym new))
       | inr old ↦ inr (some.0, old.0, some.2)
     ]
 
-    covered : (page : ℕ) (entry : Entry) → IsAmong desk.active entry → IsCovered (slice_index_or desk.authority page nobody) page entry.number (due_to desk.committed entry)
+    covered : (page : ℕ) (entry : Active) → IsAmong desk.active entry → IsCovered (slice_index_or desk.authority page nobody) page entry.number (due_to desk.committed entry)
     covered page entry among =
         let new = new-among (gone_on attempt.entry) desk.active (record attempt.entry { waiting = is.mark }) is.here refl in
         let it = one-entry 0 desk.next desk.active (record attempt.entry { waiting = is.mark }) entry is.active.ascend is.here among in
@@ -92,7 +92,7 @@ granted-closes desk attempt is went = record {
     waits_for_none to = grind (arith, nat_tests, waits-by desk attempt.entry.number to, one-entry)
 
 -- an entry that begins
-abbrev pub first_entry : ℕ → Activation → Entry
+abbrev pub first_entry : ℕ → Activation → Active
 first_entry number runs = record { number = number; runs = runs; rows = 0; waiting = false }
 
 -- the desk with it
@@ -108,12 +108,12 @@ begin-waits : (desk : Desk) (runs : Activation) (from to : ℕ) → waits_for (w
 begin-waits desk runs from to waits =
     let by = waits-by (with_first desk runs) from to waits in
     elim (among-push desk.active (first_entry desk.next runs) by.entry by.entry_among) [
-      | inr new ↦ absurd (both_ways by.entry.waiting (sym (ap (λ (x : Entry). x.waiting) new)) by.waiting)
+      | inr new ↦ absurd (both_ways by.entry.waiting (sym (ap (λ (x : Active). x.waiting) new)) by.waiting)
       | inl old ↦
           elim (among-push desk.active (first_entry desk.next runs) by.other by.other_among) [
             | inr new ↦
                 absurd (both_ways (conflicts_with desk by.entry by.other)
-                (sym (ap (λ (x : Entry). conflicts_with desk by.entry x) new)
+                (sym (ap (λ (x : Active). conflicts_with desk by.entry x) new)
                 ∙ and_right (not (desk.next == by.entry.number)) (conflicts (requested desk.committed by.entry) no_lines)
                 (or_from (meets (requested desk.committed by.entry).writes []) (meets (requested desk.committed by.entry).reads []) (meets-nothing (requested desk.committed by.entry).writes) (meets-nothing (requested desk.committed by.entry).reads)))
                 by.conflict)
@@ -154,9 +154,9 @@ begins-consistent desk runs is room present = record {
           | inl old1 ↦
               elim (among-push desk.active (first_entry desk.next runs) second among2) [
                 | inl old2 ↦ is.active.apart first second old1 old2 differ
-                | inr new2 ↦ subst (λ (x : Entry). AreApart (due_to desk.committed first) (due_to desk.committed x)) new2 (record { first_writes = λ line inside. refl; second_writes = λ line inside. absurd (cc) })
+                | inr new2 ↦ subst (λ (x : Active). AreLinesApart (due_to desk.committed first) (due_to desk.committed x)) new2 (record { first_writes = λ line inside. refl; second_writes = λ line inside. absurd (cc) })
               ]
-          | inr new1 ↦ subst (λ (x : Entry). AreApart (due_to desk.committed x) (due_to desk.committed second)) new1 (record { first_writes = λ line inside. absurd (cc); second_writes = λ line inside. refl })
+          | inr new1 ↦ subst (λ (x : Active). AreLinesApart (due_to desk.committed x) (due_to desk.committed second)) new1 (record { first_writes = λ line inside. absurd (cc); second_writes = λ line inside. refl })
         ];
   };
   held = record {
@@ -168,7 +168,7 @@ begins-consistent desk runs is room present = record {
     covered = λ page entry among. elim (among-push desk.active (first_entry desk.next runs) entry among) [
       | inl old ↦ is.held.covered page entry old
       | inr new ↦
-          subst (λ (x : Entry). IsCovered (slice_index_or desk.authority page nobody) page x.number (due_to desk.committed x)) new
+          subst (λ (x : Active). IsCovered (slice_index_or desk.authority page nobody) page x.number (due_to desk.committed x)) new
           (other-covers (slice_index_or desk.authority page nobody) page desk.next (due_to desk.committed (first_entry desk.next runs)) (not_next page))
     ];
   };
@@ -180,11 +180,11 @@ begins-consistent desk runs is room present = record {
       (λ from to waits. begin-waits desk runs from to waits) (λ from to waits. waited-active desk from to waits) steps number number walk));
 }
   where
-    length-push : (entries : List Entry) (last : Entry) → length (entries ++ last ∷ []) ≡ suc (length entries)
+    length-push : (entries : List Active) (last : Active) → length (entries ++ last ∷ []) ≡ suc (length entries)
     length-push [] last = refl
     length-push (one ∷ entries) last = ap suc (length-push entries last)
 
-    below : (low : ℕ) (entries : List Entry) → Ascend low entries desk.next → low < desk.next
+    below : (low : ℕ) (entries : List Active) → NumbersAscend low entries desk.next → low < desk.next
     below low [] up = up
     below low (entry ∷ entries) up = omega (arith, up.0, below entry.number entries up.1)
 
@@ -201,25 +201,25 @@ refused-consistent desk is = record {
   no_cycle = is.no_cycle;
 }
   where
-    later : (low : ℕ) (entries : List Entry) → Ascend low entries desk.next → Ascend low entries (desk.next + 1)
+    later : (low : ℕ) (entries : List Active) → NumbersAscend low entries desk.next → NumbersAscend low entries (desk.next + 1)
     later low [] up = omega (arith, up)
     later low (entry ∷ entries) up = (up.0, later entry.number entries up.1)
 
 -- nobody is active, and every page is nobody's
-pub quiet-consistent : (desk : Desk) → IsWhole desk.committed → 0 < desk.next → desk.active ≡ [] → desk.authority ≡ replicate (page_count desk.committed.directory) nobody → IsOrderly desk
+pub quiet-consistent : (desk : Desk) → IsWholeStore desk.committed → 0 < desk.next → desk.active ≡ [] → desk.authority ≡ replicate (page_count desk.committed.directory) nobody → IsOrderly desk
 quiet-consistent desk whole next none free = record {
   whole = whole;
-  few = omega (arith, ap (λ (these : List Entry). length these) none);
+  few = omega (arith, ap (λ (these : List Active). length these) none);
   active = subst (AreConsistent desk.committed desk.most_lines desk.next) (sym none) (record { ascend = next; live = λ entry among. absurd among; apart = λ first second among1 among2 differ. absurd among1 });
   held =
-      subst (λ (these : List Entry). IsHeld desk.committed these desk.authority) (sym none)
+      subst (λ (these : List Active). IsHeld desk.committed these desk.authority) (sym none)
       (subst (IsHeld desk.committed []) (sym free)
       (record {
         pages = length-same (page_count desk.committed.directory);
         owned = λ page. inl (ap (λ (a : Grant). a.owner) (at (page_count desk.committed.directory) page));
         covered = λ page entry among. absurd among;
       }));
-  no_cycle = λ steps number. subst (λ (these : List ℕ). leads (waits_for desk) these steps number number ≡ false) (sym (ap (λ (these : List Entry). map (λ (entry : Entry). entry.number) these) none)) (nowhere steps number);
+  no_cycle = λ steps number. subst (λ (these : List ℕ). leads (waits_for desk) these steps number number ≡ false) (sym (ap (λ (these : List Active). map (λ (entry : Active). entry.number) these) none)) (nowhere steps number);
 }
   where
     length-same : (n : ℕ) → length (replicate n nobody) ≡ n
@@ -234,5 +234,5 @@ quiet-consistent desk whole next none free = record {
     nowhere steps number = grind (arith, nat_tests)
 
 -- the desk as it opens
-pub opened-consistent : (frames most most_lines : ℕ) (store : FlatStore) → IsWhole store → IsOrderly (opened frames most most_lines store)
+pub opened-consistent : (frames most most_lines : ℕ) (store : FlatStore) → IsWholeStore store → IsOrderly (opened frames most most_lines store)
 opened-consistent frames most most_lines store whole = quiet-consistent (opened frames most most_lines store) whole (omega arith) refl refl

@@ -1,5 +1,5 @@
 -- The ends of an entry, from what an attempt over the bytes of all tells: its commit call, its program check, and any rollback.
-use Rattle.desk_law.proofs.Common.{◌≡◌, ℕ, ◌+◌, List, Some, Lines, Plain, Commit, Check, row, after, Desk, Entry, ended, rolled_back, Word, Fine, Counts, Over, Checked, Committed, instruction, ordered, commits, IsLaid, IsTold, over_all, IsAmong, due_to, IsOrderly, nat_tests, arith, next_attempt, row-way}
+use Rattle.desk_law.proofs.Common.{◌≡◌, ℕ, ◌+◌, List, Some, Lines, Plain, Commit, Check, row, after, Desk, Active, ended, rolled_back, DiskWord, Fine, Counts, Over, Checked, Committed, instruction, ordered, commits, AreLinesLaid, IsTableTold, over_all, IsAmong, due_to, IsOrderly, nat_tests, arith, next_attempt, row-way}
 use Rattle.desk_law.proofs.AttemptsOnCurrent.{ends-consistent}
 use Rattle.desk_law.proofs.Contest.{rolled-consistent}
 use Rattle.desk_law.proofs.RowsThere.{commit-row, check-row}
@@ -7,26 +7,26 @@ use Rattle.desk_law.proofs.ToldSteps.{HasCommitted, told-commit, told-rollback}
 use Rattle.desk_law.proofs.LeftLemmas.{went}
 
 -- the desk after the commit of an entry at a state
-abbrev pub committed_desk : Desk → Entry → Plain → Desk
+abbrev pub committed_desk : Desk → Active → Plain → Desk
 committed_desk desk entry now =
     record (ended (ordered desk (next_attempt desk entry now)) entry.number) { committed = record desk.committed { bytes = now.store } }
 
 -- what a commit call comes to
-pub record Commits (desk : Desk) (counts : Counts) (entry : Entry) (now : Plain) (locks requests : ℕ → Lines) (states : ℕ → Plain) (bytes : List ℕ) : Type 0 where
-  pub comes : (word : Word) → instruction word (Some entry) desk counts ≡ commits word (next_attempt desk entry now) desk counts
-  pub record_lines : IsLaid desk.committed (due_to desk.committed entry).writes bytes desk.committed.bytes now.store
+pub record Commits (desk : Desk) (counts : Counts) (entry : Active) (now : Plain) (locks requests : ℕ → Lines) (states : ℕ → Plain) (bytes : List ℕ) : Type 0 where
+  pub comes : (word : DiskWord) → instruction word (Some entry) desk counts ≡ commits word (next_attempt desk entry now) desk counts
+  pub record_lines : AreLinesLaid desk.committed (due_to desk.committed entry).writes bytes desk.committed.bytes now.store
   pub consistent : IsOrderly (committed_desk desk entry now)
-  pub told : IsTold (committed_desk desk entry now).committed (committed_desk desk entry now).active locks requests states bytes
+  pub told : IsTableTold (committed_desk desk entry now).committed (committed_desk desk entry now).active locks requests states bytes
 
 pub commit-ends :
-    (desk : Desk) (counts : Counts) (entry : Entry) (now : Plain) (locks requests : ℕ → Lines) (states : ℕ → Plain) (bytes : List ℕ)
+    (desk : Desk) (counts : Counts) (entry : Active) (now : Plain) (locks requests : ℕ → Lines) (states : ℕ → Plain) (bytes : List ℕ)
     → IsOrderly desk → IsAmong desk.active entry → after entry.runs.program entry.runs.args desk.committed entry.rows ≡ Some now
-    → IsTold desk.committed desk.active locks requests states bytes
+    → IsTableTold desk.committed desk.active locks requests states bytes
     → row entry.runs.program desk.committed.directory (over_all now bytes) ≡ Commit
     → Commits desk counts entry now locks requests states bytes
 commit-ends desk counts entry now locks requests states bytes is here at told went =
     let own : row entry.runs.program desk.committed.directory now ≡ Commit = grind (arith, nat_tests, row-way entry.runs.program desk.committed.directory now bytes) in
-    let comes : (word : Word) → instruction word (Some entry) desk counts ≡ commits word (next_attempt desk entry now) desk counts = λ word. commit-row word desk counts entry now is here at own in
+    let comes : (word : DiskWord) → instruction word (Some entry) desk counts ≡ commits word (next_attempt desk entry now) desk counts = λ word. commit-row word desk counts entry now is here at own in
     let done : HasCommitted desk.committed desk.active locks requests states bytes entry now =
     told-commit desk.committed desk.most_lines desk.next desk.active locks requests states bytes entry now is.whole is.active here told at in
     record {
@@ -38,19 +38,19 @@ commit-ends desk counts entry now locks requests states bytes is here at told we
     }
 
 -- what a rollback of an active entry leaves, of whatever cause: a check, the limit, a failed read or a lost contest
-pub record Rolls (desk : Desk) (gone : Entry) (locks requests : ℕ → Lines) (states : ℕ → Plain) (bytes : List ℕ) : Type 0 where
+pub record Rolls (desk : Desk) (gone : Active) (locks requests : ℕ → Lines) (states : ℕ → Plain) (bytes : List ℕ) : Type 0 where
   pub consistent : IsOrderly (rolled_back desk gone)
-  pub told : IsTold desk.committed (rolled_back desk gone).active locks requests states bytes
+  pub told : IsTableTold desk.committed (rolled_back desk gone).active locks requests states bytes
 
-pub rolls : (desk : Desk) (gone : Entry) (locks requests : ℕ → Lines) (states : ℕ → Plain) (bytes new : List ℕ)
-    → IsOrderly desk → IsAmong desk.active gone → IsTold desk.committed desk.active locks requests states bytes
-    → IsLaid desk.committed (due_to desk.committed gone).writes desk.committed.bytes bytes new
+pub rolls : (desk : Desk) (gone : Active) (locks requests : ℕ → Lines) (states : ℕ → Plain) (bytes new : List ℕ)
+    → IsOrderly desk → IsAmong desk.active gone → IsTableTold desk.committed desk.active locks requests states bytes
+    → AreLinesLaid desk.committed (due_to desk.committed gone).writes desk.committed.bytes bytes new
     → Rolls desk gone locks requests states new
 rolls desk gone locks requests states bytes new is here told laid = grind (arith, nat_tests, rolled-consistent desk gone is, told-rollback desk.committed desk.most_lines desk.next desk.active locks requests states bytes new gone is.active here told laid)
 
 -- a program check
-pub check-ends : (desk : Desk) (counts : Counts) (entry : Entry) (now : Plain) (code : ℕ) (bytes : List ℕ)
+pub check-ends : (desk : Desk) (counts : Counts) (entry : Active) (now : Plain) (code : ℕ) (bytes : List ℕ)
     → after entry.runs.program entry.runs.args desk.committed entry.rows ≡ Some now
     → row entry.runs.program desk.committed.directory (over_all now bytes) ≡ Check code
-    → (word : Word) → instruction word (Some entry) desk counts ≡ Over (rolled_back desk entry) counts (Checked code now.iar)
+    → (word : DiskWord) → instruction word (Some entry) desk counts ≡ Over (rolled_back desk entry) counts (Checked code now.iar)
 check-ends desk counts entry now code bytes at went word = grind (arith, nat_tests, check-row word desk counts entry now code, row-way entry.runs.program desk.committed.directory now bytes)

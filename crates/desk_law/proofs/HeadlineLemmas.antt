@@ -1,12 +1,12 @@
 -- What a crash leaves of a run from an opening.
-use Rattle.desk_law.proofs.Common.{false, not, Bool, ◌%◌, ◌^◌, take_at, map-append, Program, serial, Stands, Event, begun, stands, standing_of, fine_step, Desk, opened, Word, Fine, Doubt, run, step, IsRunOf, OpenBeforeEach, IsStage, nat_tests, ◌≡◌, ℕ, ◌+◌, ◌<◌, List, [], ◌∷◌, ◌++◌, length, map, take, refl, sym, ap, ◌∙◌, arith, length-append, append-nil, append_assoc, Some, IsTrue, Activation, FlatStore, run_serial}
+use Rattle.desk_law.proofs.Common.{false, not, Bool, ◌%◌, ◌^◌, take_at, map-append, Program, serial, Stands, Event, begun, stands, standing_of, fine_step, Desk, opened, DiskWord, Fine, Doubt, run, step, IsRunOf, OpenBeforeEach, IsStage, nat_tests, ◌≡◌, ℕ, ◌+◌, ◌<◌, List, [], ◌∷◌, ◌++◌, length, map, take, refl, sym, ap, ◌∙◌, arith, length-append, append-nil, append_assoc, Some, IsTrue, Activation, FlatStore, run_serial}
 use Rattle.store_format.proofs.Sound.{stood_header}
 use Rattle.desk_law.specs.Headline.{IsFirst, IsPrefix, LeftIsPrefix, DoubtIsWhole}
 use Rattle.desk_law.proofs.RunLemmas.{run_on}
 use Rattle.desk_law.proofs.StepLemmas.{Stepped, step_by}
 
 -- a run whose last desk is open leaves what its order leaves, one after another
-open_serial : (programs : List Program) (number frames most most_lines : ℕ) (store : FlatStore) (events : List Event) (taken : List (Event × Word)) (rest : List Event)
+open_serial : (programs : List Program) (number frames most most_lines : ℕ) (store : FlatStore) (events : List Event) (taken : List (Event × DiskWord)) (rest : List Event)
     → IsRunOf programs events (opened frames most most_lines store) taken rest → (run programs taken (opened frames most most_lines store)).closed ≡ false
     → serial (begun programs events) (run programs taken (opened frames most most_lines store)).order store ≡ Some (run programs taken (opened frames most most_lines store)).committed
 open_serial programs number frames most most_lines store events taken rest is_run still =
@@ -25,14 +25,14 @@ start_is_prefix activations number store order image seen stood none =
     }
 
 -- the image of a stage stands for the first commits
-pub stage_is_first : (programs : List Program) (number frames most most_lines : ℕ) (store : FlatStore) (events : List Event) (taken : List (Event × Word)) (rest : List Event) (image : List ℕ)
+pub stage_is_first : (programs : List Program) (number frames most most_lines : ℕ) (store : FlatStore) (events : List Event) (taken : List (Event × DiskWord)) (rest : List Event) (image : List ℕ)
     → IsRunOf programs events (opened frames most most_lines store) taken rest → (at : IsStage programs number (opened frames most most_lines store) taken image)
     → (first : IsFirst (begun programs events) number store (run programs taken (opened frames most most_lines store)).order image) × (first.j ≡ length (run programs at.stage (opened frames most most_lines store)).order)
 stage_is_first programs number frames most most_lines store events taken rest image is_run at =
     let start = opened frames most most_lines store in
     let stage = run programs at.stage start in
     let all : IsRunOf programs events start at.stage (at.after ++ rest) = record {
-      prefix = sym (append_assoc (map (λ (each : Event × Word). each.0) at.stage) at.after rest) ∙ ap (λ (front : List Event). front ++ rest) at.is_run.prefix ∙ is_run.prefix;
+      prefix = sym (append_assoc (map (λ (each : Event × DiskWord). each.0) at.stage) at.after rest) ∙ ap (λ (front : List Event). front ++ rest) at.is_run.prefix ∙ is_run.prefix;
       each_open = at.is_run.each_open;
     } in
     let made = open_serial programs number frames most most_lines store events at.stage (at.after ++ rest) all at.still_open in
@@ -53,11 +53,11 @@ left_is_prefix programs number frames most most_lines store events taken rest te
     record { first = first; since = take left.count text; seen_is = left.seen_is; told = omega (arith, same, left.told); most = omega (arith, same, left.most) }
 
 -- a run is open before each event whatever the last word is
-other_word : (programs : List Program) (front : List (Event × Word)) (event : Event) (one two : Word) (desk : Desk) → OpenBeforeEach programs (front ++ (event, one) ∷ []) desk → OpenBeforeEach programs (front ++ (event, two) ∷ []) desk
+other_word : (programs : List Program) (front : List (Event × DiskWord)) (event : Event) (one two : DiskWord) (desk : Desk) → OpenBeforeEach programs (front ++ (event, one) ∷ []) desk → OpenBeforeEach programs (front ++ (event, two) ∷ []) desk
 other_word programs [] event one two desk each = (each.0, tt)
 other_word programs (first ∷ front) event one two desk each = (each.0, other_word programs front event one two (step programs first.0 first.1 desk).desk each.1)
 
-last_open : (programs : List Program) (front : List (Event × Word)) (event : Event) (word : Word) (desk : Desk) → OpenBeforeEach programs (front ++ (event, word) ∷ []) desk → IsTrue (not (run programs front desk).closed)
+last_open : (programs : List Program) (front : List (Event × DiskWord)) (event : Event) (word : DiskWord) (desk : Desk) → OpenBeforeEach programs (front ++ (event, word) ∷ []) desk → IsTrue (not (run programs front desk).closed)
 last_open programs [] event word desk each = each.0
 last_open programs (first ∷ front) event word desk each = last_open programs front event word (step programs first.0 first.1 desk).desk each.1
 
@@ -73,7 +73,7 @@ doubt_is_whole programs number frames most most_lines store events front event r
     let is_well : fine ≡ well = run_on programs front ((event, Fine) ∷ []) start in
     let fine_run : IsRunOf programs events start (front ++ (event, Fine) ∷ []) rest = record {
       prefix =
-          cc (map-append (λ (each : Event × Word). each.0) front ((event, Fine) ∷ []), map-append (λ (each : Event × Word). each.0) front ((event, Doubt) ∷ []), is_run.prefix);
+          cc (map-append (λ (each : Event × DiskWord). each.0) front ((event, Fine) ∷ []), map-append (λ (each : Event × DiskWord). each.0) front ((event, Doubt) ∷ []), is_run.prefix);
       each_open = other_word programs front event Doubt Fine start is_run.each_open;
     } in
     let steps : Stepped Fine before.order [] (step programs event Fine before) = step_by programs event Fine [] before (open_is before.closed (last_open programs front event Doubt start is_run.each_open)) in

@@ -1,5 +1,5 @@
 -- What an authority permits is held, as entries and authorities change.
-use Rattle.desk_law.proofs.Common.{◌≡◌, refl, ℕ, zero, suc, ◌==◌, ◌&&◌, not, if◌then◌else◌, Bool, true, false, List, [], ◌∷◌, length, map, slice_index_or, ap, sym, ◌∙◌, subst, inl, inr, eqb-true, eq-eqb, or_left, cases_Bool, page_count, FlatStore, has, permits, Lines, with_whole_pages, within_page, is_whole_page, page_of_line, pages_of, has-filter, ArePart, has-within_page, whole-has, whole-reached, reaches-coarse, Entry, Grant, nobody, Attempt, grant_by, fine_grant_by, given, granted, lowered, lowered_pages, to_read, IsAmong, Ascend, due_to, IsCovered, IsOwned, IsHeld, nat_tests, arith}
+use Rattle.desk_law.proofs.Common.{◌≡◌, refl, ℕ, zero, suc, ◌==◌, ◌&&◌, not, if◌then◌else◌, Bool, true, false, List, [], ◌∷◌, length, map, slice_index_or, ap, sym, ◌∙◌, subst, inl, inr, eqb-true, eq-eqb, or_left, cases_Bool, page_count, FlatStore, has, permits, Lines, with_whole_pages, within_page, is_whole_page, page_of_line, pages_of, has-filter, ArePart, has-within_page, whole-has, whole-reached, reaches-coarse, Active, Grant, nobody, InFlight, grant_by, fine_grant_by, given_by_locks, granted, lowered, lowered_pages, to_read, IsAmong, NumbersAscend, due_to, IsCovered, IsOwned, IsHeld, nat_tests, arith}
 use Rattle.desk_law.proofs.EachPage.{length-each, each-all}
 use Rattle.desk_law.proofs.Entries.{among-replaced, replaced-among, new-among, replaced, one-entry}
 use Rattle.desk_law.proofs.Others.{others, among-others, others-among}
@@ -25,18 +25,18 @@ pub covered-more : (authority : Grant) (page number : ℕ) (locks more : Lines) 
 covered-more authority page number locks more part covered = grind (arith, nat_tests)
 
 -- what authority permits to entries of other numbers than one is held
-pub record IsHeldBut (number : ℕ) (store : FlatStore) (entries : List Entry) (authority : List Grant) : Type 0 where
+pub record IsHeldBut (number : ℕ) (store : FlatStore) (entries : List Active) (authority : List Grant) : Type 0 where
   pub pages : length authority ≡ page_count store.directory
   pub owned : (page : ℕ) → IsOwned entries (slice_index_or authority page nobody)
-  pub covered : (page : ℕ) (entry : Entry) → IsAmong entries entry → (entry.number == number) ≡ false → IsCovered (slice_index_or authority page nobody) page entry.number (due_to store entry)
+  pub covered : (page : ℕ) (entry : Active) → IsAmong entries entry → (entry.number == number) ≡ false → IsCovered (slice_index_or authority page nobody) page entry.number (due_to store entry)
 
-pub held-but : (number : ℕ) (store : FlatStore) (entries : List Entry) (authority : List Grant) → IsHeld store entries authority → IsHeldBut number store entries authority
+pub held-but : (number : ℕ) (store : FlatStore) (entries : List Active) (authority : List Grant) → IsHeld store entries authority → IsHeldBut number store entries authority
 held-but number store entries authority held = record { pages = held.pages; owned = held.owned; covered = λ page entry among other. held.covered page entry among }
 
 -- after one has ended
 pub held-others :
-    (store later : FlatStore) (entries : List Entry) (authority : List Grant) (gone : Entry) → later.directory ≡ store.directory
-    → ((other : Entry) → IsAmong (others gone entries) other → due_to later other ≡ due_to store other)
+    (store later : FlatStore) (entries : List Active) (authority : List Grant) (gone : Active) → later.directory ≡ store.directory
+    → ((other : Active) → IsAmong (others gone entries) other → due_to later other ≡ due_to store other)
     → IsHeldBut gone.number store entries authority → IsHeld later (others gone entries) (map (freed gone.number) authority)
 held-others store later entries authority gone one_directory same held = record {
   pages = length-freed gone.number authority ∙ held.pages ∙ sym (ap page_count one_directory);
@@ -51,7 +51,7 @@ held-others store later entries authority gone one_directory same held = record 
 
 -- after one entry changed
 pub held-replaced :
-    (store : FlatStore) (entries : List Entry) (authority : List Grant) (old new : Entry) → IsAmong entries old → old.number ≡ new.number
+    (store : FlatStore) (entries : List Active) (authority : List Grant) (old new : Active) → IsAmong entries old → old.number ≡ new.number
     → ((page : ℕ) → IsCovered (slice_index_or authority page nobody) page new.number (due_to store new))
     → IsHeld store entries authority → IsHeld store (replaced new entries) authority
 held-replaced store entries authority old new here same covers held = record {
@@ -107,9 +107,9 @@ fine-covers number page false locks whole = by_whole (is_whole_page (within_page
     by_whole false e = off-covers number page locks
 
 -- what a page is granted is held, but for a fine page into which the row writes before all of it is held to read
-pub grant-covers : (fine : ℕ → Bool) (attempt : Attempt) (page : ℕ) (lines : Lines)
+pub grant-covers : (fine : ℕ → Bool) (attempt : InFlight) (page : ℕ) (lines : Lines)
     → (fine page ≡ true → has (pages_of attempt.lines.writes) page ≡ true → is_whole_page (within_page page (with_whole_pages fine lines).reads) ≡ true)
-    → IsCovered (given fine attempt (with_whole_pages fine lines) page) page attempt.entry.number (with_whole_pages fine lines)
+    → IsCovered (given_by_locks fine attempt (with_whole_pages fine lines) page) page attempt.entry.number (with_whole_pages fine lines)
 grant-covers fine attempt page lines whole =
     let all = with_whole_pages fine lines in
     let coarse = λ (e : fine page ≡ false). by-covers attempt.entry.number page all (within_page page lines.writes) (λ line there. there) (λ written there line here. let (at, was) = inside page written lines.writes there in whole-reached fine lines line written was (reaches-coarse fine line written (sym at ∙ sym here) (ap fine here ∙ e))) in
@@ -124,25 +124,25 @@ owner-by : (number : ℕ) (reads writes : List ℕ) → (grant_by number reads w
 owner-by number reads writes = grind (arith, nat_tests)
 
 -- a page is granted to the activation
-pub given-owner : (fine : ℕ → Bool) (attempt : Attempt) (locks : Lines) (page : ℕ) → (given fine attempt locks page).owner ≡ attempt.entry.number
+pub given-owner : (fine : ℕ → Bool) (attempt : InFlight) (locks : Lines) (page : ℕ) → (given_by_locks fine attempt locks page).owner ≡ attempt.entry.number
 given-owner fine attempt locks page = grind (arith, nat_tests, owner-by)
 
 -- Pages granted to an entry: what is permitted to the others is held still.
 pub held-granted :
-    (fine : ℕ → Bool) (store : FlatStore) (entries : List Entry) (new : Entry) (attempt : Attempt) (locks : Lines) (pages : List ℕ) (authority : List Grant)
+    (fine : ℕ → Bool) (store : FlatStore) (entries : List Active) (new : Active) (attempt : InFlight) (locks : Lines) (pages : List ℕ) (authority : List Grant)
     → IsAmong entries new → attempt.entry.number ≡ new.number → IsHeldBut attempt.entry.number store entries authority
     → IsHeldBut attempt.entry.number store entries (granted fine attempt locks pages authority)
 held-granted fine store entries new attempt locks pages authority here same held = record {
-  pages = length-each (given fine attempt locks) pages authority ∙ held.pages;
-  owned = λ at. each-all (IsOwned entries) (given fine attempt locks) pages authority at (inl refl) (λ is. inr (new, here, given-owner fine attempt locks at ∙ same)) (λ out. held.owned at);
+  pages = length-each (given_by_locks fine attempt locks) pages authority ∙ held.pages;
+  owned = λ at. each-all (IsOwned entries) (given_by_locks fine attempt locks) pages authority at (inl refl) (λ is. inr (new, here, given-owner fine attempt locks at ∙ same)) (λ out. held.owned at);
   covered = λ at entry among other.
-      each-all (λ a. IsCovered a at entry.number (due_to store entry)) (given fine attempt locks) pages authority at (nobody-covers at entry.number (due_to store entry))
-      (λ is. other-covers (given fine attempt locks at) at entry.number (due_to store entry) (grind (arith, nat_tests, given-owner fine attempt locks at))) (λ out. held.covered at entry among other);
+      each-all (λ a. IsCovered a at entry.number (due_to store entry)) (given_by_locks fine attempt locks) pages authority at (nobody-covers at entry.number (due_to store entry))
+      (λ is. other-covers (given_by_locks fine attempt locks at) at entry.number (due_to store entry) (grind (arith, nat_tests, given-owner fine attempt locks at))) (λ out. held.covered at entry among other);
 }
 
 -- Once the row has taken effect: what is permitted is held, to the entry by the locks of its row too.
-module _ (fine : ℕ → Bool) (store : FlatStore) (below : ℕ) (entries : List Entry) (new : Entry) (attempt : Attempt) (lines : Lines) (pages : List ℕ) (authority : List Grant)
-    (up : Ascend 0 entries below) (here : IsAmong entries new) (same : attempt.entry.number ≡ new.number) (due : with_whole_pages fine lines ≡ due_to store new)
+module _ (fine : ℕ → Bool) (store : FlatStore) (below : ℕ) (entries : List Active) (new : Active) (attempt : InFlight) (lines : Lines) (pages : List ℕ) (authority : List Grant)
+    (up : NumbersAscend 0 entries below) (here : IsAmong entries new) (same : attempt.entry.number ≡ new.number) (due : with_whole_pages fine lines ≡ due_to store new)
     (held : IsHeld store entries authority) where
   abbrev locks : Lines
   locks = with_whole_pages fine lines
@@ -164,7 +164,7 @@ module _ (fine : ℕ → Bool) (store : FlatStore) (below : ℕ) (entries : List
   own-covered at =
       each-all (λ a. IsCovered a at attempt.entry.number locks) (to_read attempt locks) (lowered_pages fine attempt locks) after_grants at (nobody-covers at attempt.entry.number locks)
       (λ is. off-covers attempt.entry.number at locks)
-      (λ out. each-all (λ a. IsCovered a at attempt.entry.number locks) (given fine attempt locks) pages authority at (nobody-covers at attempt.entry.number locks)
+      (λ out. each-all (λ a. IsCovered a at attempt.entry.number locks) (given_by_locks fine attempt locks) pages authority at (nobody-covers at attempt.entry.number locks)
       (λ is. grant-covers fine attempt at lines (whole at out)) (λ old. grind (arith, held.covered at new here, same, due)))
 
   pub held-lowered : IsHeld store entries (lowered fine attempt locks after_grants)

@@ -1,5 +1,5 @@
 -- Grant that is kept under identifiers of seats, and told under the numbers of the activations in them.
-use Rattle.desk_law.proofs.Common.{◌≡◌, refl, ℕ, zero, suc, ◌==◌, ◌||◌, not, if◌then◌else◌, Bool, true, false, List, [], ◌∷◌, map, filter, slice_set, slice_index_or, list_any, ap, sym, has, Lines, within_page, is_whole_page, pages_of, Grant, nobody, Attempt, grant_by, fine_grant_by, given, with_each, granted, lowered, refuses, lines_within, owner_told, owners_told, StandsFor, lets, nat_tests, arith}
+use Rattle.desk_law.proofs.Common.{◌≡◌, refl, ℕ, zero, suc, ◌==◌, ◌||◌, not, if◌then◌else◌, Bool, true, false, List, [], ◌∷◌, map, filter, slice_set, slice_index_or, list_any, ap, sym, has, Lines, within_page, is_whole_page, pages_of, Grant, nobody, InFlight, grant_by, fine_grant_by, given_by_locks, with_each, granted, lowered, refuses, lines_within, owner_told, owners_told, StandsFor, lets, nat_tests, arith}
 use Rattle.desk_law.proofs.AlikeSets.{filter-same}
 use Rattle.desk_law.proofs.Holding.{freed}
 
@@ -48,10 +48,10 @@ module _ (numbers : ℕ → ℕ) (none : numbers 0 ≡ 0) where
   each-told of told (page ∷ pages) authority same = grind (arith, nat_tests, each-told of told pages (slice_set authority page (of page)) same, told-set)
 
   -- pages granted to an identifier are granted to its number
-  pub granted-told : (fine : ℕ → Bool) (identifier : ℕ) (attempt : Attempt) (locks : Lines) (pages : List ℕ) (authority : List Grant) → numbers identifier ≡ attempt.entry.number
+  pub granted-told : (fine : ℕ → Bool) (identifier : ℕ) (attempt : InFlight) (locks : Lines) (pages : List ℕ) (authority : List Grant) → numbers identifier ≡ attempt.entry.number
       → owners_told numbers (granted fine (record attempt { entry = record attempt.entry { number = identifier } }) locks pages authority) ≡ granted fine attempt locks pages (owners_told numbers authority)
   granted-told fine identifier attempt locks pages authority is =
-      each-told (given fine (record attempt { entry = record attempt.entry { number = identifier } }) locks) (given fine attempt locks) pages authority
+      each-told (given_by_locks fine (record attempt { entry = record attempt.entry { number = identifier } }) locks) (given_by_locks fine attempt locks) pages authority
       (λ page. by_fine page (fine page) (has (pages_of attempt.lines.writes) page))
     where
       by_writes : (page : ℕ) (writes : List ℕ) → owner_told numbers (grant_by identifier (within_page page locks.reads) writes) ≡ grant_by attempt.entry.number (within_page page locks.reads) writes
@@ -68,7 +68,7 @@ module _ (numbers : ℕ → ℕ) (none : numbers 0 ≡ 0) where
       by_fine page false storing = by_writes page (within_page page locks.writes)
 
   -- and so are the write bits that go off
-  pub lowered-told : (fine : ℕ → Bool) (identifier : ℕ) (attempt : Attempt) (locks : Lines) (authority : List Grant) → numbers identifier ≡ attempt.entry.number
+  pub lowered-told : (fine : ℕ → Bool) (identifier : ℕ) (attempt : InFlight) (locks : Lines) (authority : List Grant) → numbers identifier ≡ attempt.entry.number
       → owners_told numbers (lowered fine (record attempt { entry = record attempt.entry { number = identifier } }) locks authority) ≡ lowered fine attempt locks (owners_told numbers authority)
   lowered-told fine identifier attempt locks authority is = grind (arith, nat_tests, each-told)
 

@@ -1,5 +1,5 @@
 -- An instruction stage by stage, as one that serves a fault goes through them.
-use Rattle.desk_law.proofs.Common.{◌≡◌, refl, ℕ, ◌+◌, Bool, false, List, length, Option, Some, ap, is_fine_page, Plain, Outcome, On, Check, after, Desk, Entry, conflicts_of, Word, Fine, Counts, Going, Attempt, Fetched, Broken, Settled, fetches, instruction, attempts, attempts_at, limited, is_over_limit, fetched_first, fetches_touched, asks, gets, takes_effect, touched_pages, refused_pages, granted, locks_with, breaks, contest_ends, waits_or_gets, Reads, row_done, nat_tests, arith, next_attempt}
+use Rattle.desk_law.proofs.Common.{◌≡◌, refl, ℕ, ◌+◌, Bool, false, List, length, Option, Some, ap, is_fine_page, Plain, Outcome, On, Check, after, Desk, Active, conflicts_of, DiskWord, Fine, Counts, Going, InFlight, Fetched, Broken, Settled, fetches, instruction, attempts, attempts_at, limited, is_over_limit, fetched_first, fetches_touched, asks, gets, takes_effect, touched_pages, refused_pages, granted, locks_with, breaks, contest_ends, waits_or_gets, Reads, row_done, nat_tests, arith, next_attempt}
 
 -- a row that goes on, or is the commit call
 abbrev pub GoesOn : Outcome → Type 0
@@ -10,13 +10,13 @@ pub reads-all : (counted : ℕ) → Reads Fine counted
 reads-all counted page few = refl
 
 -- an instruction at a state, by its row
-pub instruction-at : (word : Word) (entry : Entry) (desk : Desk) (counts : Counts) (now : Plain)
+pub instruction-at : (word : DiskWord) (entry : Active) (desk : Desk) (counts : Counts) (now : Plain)
     → after entry.runs.program entry.runs.args desk.committed entry.rows ≡ Some now
     → instruction word (Some entry) desk counts ≡ attempts word (next_attempt desk entry now) (next_attempt desk entry now).outcome desk counts
 unfolding instruction
 instruction-at word entry desk counts now is = ap (λ (state : Option Plain). attempts_at word entry state desk counts) is
 
-module _ (word : Word) (attempt : Attempt) (desk : Desk) (counts : Counts) where
+module _ (word : DiskWord) (attempt : InFlight) (desk : Desk) (counts : Counts) where
   -- 2. Otherwise the lines that it will have written are counted. Past the limit it is rolled back.
   pub stage-limit : (outcome : Outcome) (over : Bool) → GoesOn outcome → is_over_limit attempt desk ≡ over
       → attempts word attempt outcome desk counts ≡ limited over word attempt desk counts

@@ -1,5 +1,5 @@
 -- What an instruction of an entry does to the entries and to what is committed.
-use Rattle.desk_law.proofs.Common.{◌≡◌, ℕ, ◌+◌, ◌==◌, Bool, true, false, List, Some, None, eq-eqb, both_ways, victim_of, Plain, On, Desk, Entry, with_entry, rolled_back, Turning, Going, Over, Committed, Attempt, Contest, Contested, Settled, Lost, breaks_cycles, row_done, left_by, IsAmong, AreConsistent, nat_tests, arith, contest}
+use Rattle.desk_law.proofs.Common.{◌≡◌, ℕ, ◌+◌, ◌==◌, Bool, true, false, List, Some, None, eq-eqb, both_ways, victim_of, Plain, On, Desk, Active, with_active, rolled_back, Turning, Going, Over, Committed, InFlight, Contest, Contested, Settled, Lost, breaks_cycles, row_done, committed_by, IsAmong, AreConsistent, nat_tests, arith, contest}
 use Rattle.desk_law.proofs.Entries.{among-filter, among-found, none-found, among-replaced, one-entry}
 use Rattle.desk_law.proofs.Others.{others, among-others}
 use Rattle.desk_law.proofs.Contest.{VictimsKeep, victims-keep}
@@ -8,18 +8,18 @@ use Rattle.desk_law.proofs.GoesOn.{IsGranted}
 -- what is committed is as it was, and the entries of other numbers were active before
 pub record From (number : ℕ) (old desk : Desk) : Type 0 where
   pub committed : desk.committed ≡ old.committed
-  pub others : (other : Entry) → IsAmong desk.active other → (other.number == number) ≡ false → IsAmong old.active other
+  pub others : (other : Active) → IsAmong desk.active other → (other.number == number) ≡ false → IsAmong old.active other
 
 -- nobody has a number
 abbrev pub HasLeft : ℕ → Desk → Type 0
-HasLeft number desk = (other : Entry) → IsAmong desk.active other → (other.number == number) ≡ false
+HasLeft number desk = (other : Active) → IsAmong desk.active other → (other.number == number) ≡ false
 
 -- an entry is as it was but for its mark, or gone
-abbrev pub IsAsBefore : Entry → Desk → Type 0
-IsAsBefore entry desk = (other : Entry) → IsAmong desk.active other → (other.number == entry.number) ≡ true → (mark : Bool) × (record entry { waiting = mark } ≡ other)
+abbrev pub IsAsBefore : Active → Desk → Type 0
+IsAsBefore entry desk = (other : Active) → IsAmong desk.active other → (other.number == entry.number) ≡ true → (mark : Bool) × (record entry { waiting = mark } ≡ other)
 
 -- the row took effect: nobody conflicted at the moment before it, and only the entry went on
-pub record RowDone (old : Desk) (attempt : Attempt) (desk : Desk) : Type 0 where
+pub record RowDone (old : Desk) (attempt : InFlight) (desk : Desk) : Type 0 where
   pub moment : Desk
   pub next : Plain
   pub went : attempt.outcome ≡ On next
@@ -28,43 +28,43 @@ pub record RowDone (old : Desk) (attempt : Attempt) (desk : Desk) : Type 0 where
   pub from : From attempt.entry.number old moment
 
 -- the commit was done: the entry ended, and its store is committed
-pub record CommitDone (old : Desk) (attempt : Attempt) (desk : Desk) (steps : ℕ) (printed : List ℕ) : Type 0 where
+pub record CommitDone (old : Desk) (attempt : InFlight) (desk : Desk) (steps : ℕ) (printed : List ℕ) : Type 0 where
   pub moment : Desk
   pub granted : IsGranted attempt moment
   pub from : From attempt.entry.number old moment
-  pub committed : desk.committed ≡ left_by moment.committed attempt.now
+  pub committed : desk.committed ≡ committed_by moment.committed attempt.now
   pub active : desk.active ≡ others attempt.entry moment.active
   pub steps_are : steps ≡ attempt.entry.rows + 1
   pub printed_is : printed ≡ attempt.now.out
 
 -- no row was done
-pub record NoRowDone (old : Desk) (attempt : Attempt) (desk : Desk) : Type 0 where
+pub record NoRowDone (old : Desk) (attempt : InFlight) (desk : Desk) : Type 0 where
   pub from : From attempt.entry.number old desk
   pub own : IsAsBefore attempt.entry desk
 
-abbrev pub Did : Desk → Attempt → Turning → Type 0
+abbrev pub Did : Desk → InFlight → Turning → Type 0
 Did old attempt (Going desk counts) = RowDone old attempt desk
 Did old attempt (Over desk counts (Committed steps printed)) = CommitDone old attempt desk steps printed
 Did old attempt (Over desk counts ending) = NoRowDone old attempt desk
 
 -- a rollback of the entry
-pub rolled-from : (number : ℕ) (old desk : Desk) (gone : Entry) → From number old desk → From number old (rolled_back desk gone)
+pub rolled-from : (number : ℕ) (old desk : Desk) (gone : Active) → From number old desk → From number old (rolled_back desk gone)
 rolled-from number old desk gone from = grind (arith, nat_tests, others, among-filter)
 
-pub rolled-left : (desk : Desk) (gone : Entry) → HasLeft gone.number (rolled_back desk gone)
+pub rolled-left : (desk : Desk) (gone : Active) → HasLeft gone.number (rolled_back desk gone)
 rolled-left desk gone other among = (among-others gone desk.active other among).1
 
-pub left-before : (entry : Entry) (desk : Desk) → HasLeft entry.number desk → IsAsBefore entry desk
+pub left-before : (entry : Active) (desk : Desk) → HasLeft entry.number desk → IsAsBefore entry desk
 left-before entry desk left other among same = absurd (both_ways (other.number == entry.number) (left other among) same)
 
-pub rolled-done : (old : Desk) (attempt : Attempt) (desk : Desk) → From attempt.entry.number old desk → NoRowDone old attempt (rolled_back desk attempt.entry)
+pub rolled-done : (old : Desk) (attempt : InFlight) (desk : Desk) → From attempt.entry.number old desk → NoRowDone old attempt (rolled_back desk attempt.entry)
 rolled-done old attempt desk from = grind (arith, nat_tests, rolled-from attempt.entry.number old desk attempt.entry from, left-before attempt.entry (rolled_back desk attempt.entry) (rolled-left desk attempt.entry), rolled-left desk attempt.entry)
 
 -- an entry that is active, with any mark
-pub marked-before : (entry : Entry) (mark : Bool) (desk : Desk) → AreConsistent desk.committed desk.most_lines desk.next desk.active → IsAmong desk.active (record entry { waiting = mark }) → IsAsBefore entry desk
+pub marked-before : (entry : Active) (mark : Bool) (desk : Desk) → AreConsistent desk.committed desk.most_lines desk.next desk.active → IsAmong desk.active (record entry { waiting = mark }) → IsAsBefore entry desk
 marked-before entry mark desk are here other among same = grind (arith, nat_tests, one-entry)
 
-pub marked-from : (old desk : Desk) (entry new : Entry) → new.number ≡ entry.number → From entry.number old desk → From entry.number old (with_entry desk new)
+pub marked-from : (old desk : Desk) (entry new : Active) → new.number ≡ entry.number → From entry.number old desk → From entry.number old (with_active desk new)
 marked-from old desk entry new same from = grind (arith, nat_tests, others, among-replaced, both_ways, eq-eqb)
 
 -- what a contest does
@@ -78,8 +78,8 @@ breaks-did number old left contest did = victims-keep (ContestDid number old) nu
   where
     by_victim : VictimsKeep (ContestDid number old) number
     by_victim desk counts cycle None true did found is =
-        (did, λ other among. grind (arith, nat_tests, is, none-found (λ (entry : Entry). entry.number == victim_of cycle) desk.active found other among))
+        (did, λ other among. grind (arith, nat_tests, is, none-found (λ (entry : Active). entry.number == victim_of cycle) desk.active found other among))
     by_victim desk counts cycle (Some victim) true did found is =
-        grind (arith, nat_tests, rolled-from number old desk victim did, among-found (λ (entry : Entry). entry.number == victim_of cycle) desk.active victim found, rolled-left)
+        grind (arith, nat_tests, rolled-from number old desk victim did, among-found (λ (entry : Active). entry.number == victim_of cycle) desk.active victim found, rolled-left)
     by_victim desk counts cycle None false did found is = did
     by_victim desk counts cycle (Some victim) false did found is = rolled-from number old desk victim did

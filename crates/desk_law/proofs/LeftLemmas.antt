@@ -1,5 +1,5 @@
 -- What a crash leaves of a run, from what it leaves of its parts.
-use Rattle.desk_law.proofs.Common.{◌≡◌, ℕ, ◌+◌, ◌≤◌, List, [], ◌∷◌, ◌++◌, length, map, take, min, refl, sym, ap, ◌∙◌, arith, append-nil, append_assoc, length-append, ⊎_elim, false, not, take-append-le, take_min, map-append, Program, stands, Event, Desk, Word, Fine, Step, run, step, OpenBeforeEach, commits_seen, standing_of, fine_step, IsEitherOf, IsLeft, IsStage, take-append-add}
+use Rattle.desk_law.proofs.Common.{◌≡◌, ℕ, ◌+◌, ◌≤◌, List, [], ◌∷◌, ◌++◌, length, map, take, min, refl, sym, ap, ◌∙◌, arith, append-nil, append_assoc, length-append, ⊎_elim, false, not, take-append-le, take_min, map-append, Program, stands, Event, Desk, DiskWord, Fine, Step, run, step, OpenBeforeEach, commits_seen, standing_of, fine_step, IsEitherOf, IsLeft, IsStage, take-append-add}
 use Rattle.desk_law.proofs.SeenLemmas.{seen_cut}
 use Rattle.desk_law.proofs.StepLemmas.{Stepped, step_by}
 use Rattle.desk_law.proofs.RunLemmas.{run_on, open_on}
@@ -8,8 +8,8 @@ use Rattle.desk_law.proofs.RunLemmas.{run_on, open_on}
 cut_more : (count : ℕ) (one two : List ℕ) → take (min count (length one)) (one ++ two) ≡ take count one
 cut_more count one two = take-append-le (min count (length one)) one two (omega arith) ∙ take_min count one
 
-abbrev events_of : List (Event × Word) → List Event
-events_of taken = map (λ (each : Event × Word). each.0) taken
+abbrev events_of : List (Event × DiskWord) → List Event
+events_of taken = map (λ (each : Event × DiskWord). each.0) taken
 
 module _ (programs : List Program) (number : ℕ) where
   -- nothing was run
@@ -27,13 +27,13 @@ module _ (programs : List Program) (number : ℕ) where
   }
 
   -- a stage of the first part is one of the whole
-  abbrev pub stage_more : (start : Desk) (one two : List (Event × Word)) (image : List ℕ) (more : List (ℕ × ℕ)) → (run programs two (run programs one start)).order ≡ (run programs one start).order ++ more
+  abbrev pub stage_more : (start : Desk) (one two : List (Event × DiskWord)) (image : List ℕ) (more : List (ℕ × ℕ)) → (run programs two (run programs one start)).order ≡ (run programs one start).order ++ more
       → IsStage programs number start one image → IsStage programs number start (one ++ two) image
   stage_more start one two image more grows at = record {
     stage = at.stage;
     after = at.after ++ events_of two;
     is_run = record {
-      prefix = sym (append_assoc (events_of at.stage) at.after (events_of two)) ∙ ap (λ (front : List Event). front ++ events_of two) at.is_run.prefix ∙ sym (map-append (λ (each : Event × Word). each.0) one two);
+      prefix = sym (append_assoc (events_of at.stage) at.after (events_of two)) ∙ ap (λ (front : List Event). front ++ events_of two) at.is_run.prefix ∙ sym (map-append (λ (each : Event × DiskWord). each.0) one two);
       each_open = at.is_run.each_open;
     };
     still_open = at.still_open;
@@ -43,7 +43,7 @@ module _ (programs : List Program) (number : ℕ) where
   }
 
   -- and what was left of it is left of the whole
-  pub left_more : (start : Desk) (one two : List (Event × Word)) (first second printed image seen : List ℕ) (more : List (ℕ × ℕ)) → (run programs two (run programs one start)).order ≡ (run programs one start).order ++ more
+  pub left_more : (start : Desk) (one two : List (Event × DiskWord)) (first second printed image seen : List ℕ) (more : List (ℕ × ℕ)) → (run programs two (run programs one start)).order ≡ (run programs one start).order ++ more
       → IsLeft programs number start one first printed image seen → IsLeft programs number start (one ++ two) (first ++ second) printed image seen
   left_more start one two first second printed image seen more grows left =
       let same = ap commits_seen (cut_more left.count first second) in
@@ -56,7 +56,7 @@ module _ (programs : List Program) (number : ℕ) where
       }
 
   -- a stage of the second part is one of the whole
-  pub stage_behind : (start : Desk) (one two : List (Event × Word)) (image : List ℕ) → OpenBeforeEach programs one start
+  pub stage_behind : (start : Desk) (one two : List (Event × DiskWord)) (image : List ℕ) → OpenBeforeEach programs one start
       → (at : IsStage programs number (run programs one start) two image) → (whole : IsStage programs number start (one ++ two) image) × (run programs whole.stage start ≡ run programs at.stage (run programs one start))
   stage_behind start one two image each_open at =
       let same : run programs (one ++ at.stage) start ≡ run programs at.stage (run programs one start) = run_on programs one at.stage start in
@@ -65,7 +65,7 @@ module _ (programs : List Program) (number : ℕ) where
         after = at.after;
         is_run = record {
           prefix =
-              cc (map-append (λ (each : Event × Word). each.0) one at.stage, append_assoc (events_of one) (events_of at.stage) at.after, at.is_run.prefix, map-append (λ (each : Event × Word). each.0) one two);
+              cc (map-append (λ (each : Event × DiskWord). each.0) one at.stage, append_assoc (events_of one) (events_of at.stage) at.after, at.is_run.prefix, map-append (λ (each : Event × DiskWord). each.0) one two);
           each_open = open_on programs one at.stage start each_open at.is_run.each_open;
         };
         still_open = ap (λ (desk : Desk). desk.closed) same ∙ at.still_open;
@@ -76,7 +76,7 @@ module _ (programs : List Program) (number : ℕ) where
       (whole, same)
 
   -- and what was left of it is left of the whole, where each commit of the first part has its line
-  pub left_behind : (start : Desk) (one two : List (Event × Word)) (first second printed image seen : List ℕ) → OpenBeforeEach programs one start → length (run programs one start).order ≡ length start.order + commits_seen first
+  pub left_behind : (start : Desk) (one two : List (Event × DiskWord)) (first second printed image seen : List ℕ) → OpenBeforeEach programs one start → length (run programs one start).order ≡ length start.order + commits_seen first
       → ((rest : List ℕ) → commits_seen (first ++ rest) ≡ commits_seen first + commits_seen rest)
       → IsLeft programs number (run programs one start) two second (printed ++ first) image seen → IsLeft programs number start (one ++ two) (first ++ second) printed image seen
   left_behind start one two first second printed image seen each_open each adds left =
@@ -92,7 +92,7 @@ module _ (programs : List Program) (number : ℕ) where
         most = omega (arith, long, each, seen_is, left.most);
       }
 
-  module _ (event : Event) (word : Word) (names : List (List ℕ)) (old : Desk) (was_open : old.closed ≡ false) (image : List ℕ) where
+  module _ (event : Event) (word : DiskWord) (names : List (List ℕ)) (old : Desk) (was_open : old.closed ≡ false) (image : List ℕ) where
     abbrev pub went : Step
     went = step programs event word old
 

@@ -1,5 +1,5 @@
 -- What machines side by side do to one memory, step by step.
-use Rattle.desk_law.proofs.Common.{◌≡◌, refl, ℕ, ◌==◌, ◌||◌, not, if◌then◌else◌, Bool, true, false, List, [], ◌∷◌, ◌++◌, length, filter, Option, Some, flat_map, list_any, ap, sym, ◌∙◌, subst, inl, inr, both_ways, and_parts, cases_Bool, not-true, cond-false, same_Some, Layout, byte_count, FlatStore, IsWhole, has, Lines, has-append, has-filter, any-at, any-some, Plain, Program, Outcome, On, plan_at, row, touched, after, due_locks, touched_next, line_in, after-whole, Desk, Entry, numbers, Attempt, IsLaid, gone_on, row_done, left_by, IsAmong, due_to, AreConsistent, current, IsCurrent, current_bytes, Machine, Memory, laid, wrote_by, given_back, went_on, does_row, commit_of, IsAlone, IsMemory, IsOrderly, nat_tests, arith}
+use Rattle.desk_law.proofs.Common.{◌≡◌, refl, ℕ, ◌==◌, ◌||◌, not, if◌then◌else◌, Bool, true, false, List, [], ◌∷◌, ◌++◌, length, filter, Option, Some, flat_map, list_any, ap, sym, ◌∙◌, subst, inl, inr, both_ways, and_parts, cases_Bool, not-true, cond-false, same_Some, Layout, byte_count, FlatStore, IsWholeStore, has, Lines, has-append, has-filter, any-at, any-some, Plain, Program, Outcome, On, plan_at, row, touched, after, due_locks, touched_next, flat_line, after-whole, Desk, Active, numbers, InFlight, AreLinesLaid, gone_on, row_done, committed_by, IsAmong, due_to, AreConsistent, current, IsCurrent, current_bytes, Machine, Memory, laid_lines, wrote_by, given_back, memory_went_on, does_row, commit_of, IsAlone, IsMemory, IsOrderly, nat_tests, arith}
 use Rattle.desk_law.proofs.Entries.{replaced, among-filter, among-replaced, one-entry}
 use Rattle.desk_law.proofs.Others.{others, another-same, after-row}
 use Rattle.desk_law.proofs.Waiting.{number-of, has-number}
@@ -12,25 +12,25 @@ use Rattle.desk_law.proofs.CurrentSteps.{commit-laid}
 -- entries of a desk were active before, but for their marks
 pub record AreFewer (old desk : Desk) : Type 0 where
   pub committed : desk.committed ≡ old.committed
-  pub was : (entry : Entry) → IsAmong desk.active entry → (before : Entry) × IsAmong old.active before × (before.number ≡ entry.number) × (before.runs ≡ entry.runs) × (before.rows ≡ entry.rows)
+  pub was : (entry : Active) → IsAmong desk.active entry → (before : Active) × IsAmong old.active before × (before.number ≡ entry.number) × (before.runs ≡ entry.runs) × (before.rows ≡ entry.rows)
 
 pub has-joined : (f : ℕ → List ℕ) (xs : List ℕ) (line : ℕ) → has (flat_map f xs) line ≡ list_any (λ x. has (f x) line) xs
 has-joined f [] line = refl
 has-joined f (x ∷ xs) line = has-append (f x) (flat_map f xs) line ∙ ap (λ (b : Bool). has (f x) line || b) (has-joined f xs line)
 
 -- what depends on the program and its rows alone
-due-alike : (store : FlatStore) (before entry : Entry) → before.runs ≡ entry.runs → before.rows ≡ entry.rows → due_to store before ≡ due_to store entry
+due-alike : (store : FlatStore) (before entry : Active) → before.runs ≡ entry.runs → before.rows ≡ entry.rows → due_to store before ≡ due_to store entry
 due-alike store before entry runs rows = λ i. due_locks (runs i).program (runs i).args store (rows i)
 
-after-alike : (store : FlatStore) (before entry : Entry) → before.runs ≡ entry.runs → before.rows ≡ entry.rows
+after-alike : (store : FlatStore) (before entry : Active) → before.runs ≡ entry.runs → before.rows ≡ entry.rows
     → after before.runs.program before.runs.args store before.rows ≡ after entry.runs.program entry.runs.args store entry.rows
 after-alike store before entry runs rows = λ i. after (runs i).program (runs i).args store (rows i)
 
 -- the bytes of a memory are current
-pub memory-current : (desk : Desk) (memory : Memory) → IsWhole desk.committed → IsMemory desk memory → IsCurrent desk.committed desk.active memory.bytes
+pub memory-current : (desk : Desk) (memory : Memory) → IsWholeStore desk.committed → IsMemory desk memory → IsCurrent desk.committed desk.active memory.bytes
 memory-current desk memory whole is = subst (IsCurrent desk.committed desk.active) (sym is.bytes) (bytes-current desk whole)
 
-wrote-is : (desk : Desk) (memory : Memory) (entry : Entry) → IsMemory desk memory → IsAmong desk.active entry → wrote_by memory entry.number ≡ (due_to desk.committed entry).writes
+wrote-is : (desk : Desk) (memory : Memory) (entry : Active) → IsMemory desk memory → IsAmong desk.active entry → wrote_by memory entry.number ≡ (due_to desk.committed entry).writes
 wrote-is desk memory entry is here = grind (arith, nat_tests)
 
 -- Lines of those that went are given back.
@@ -39,31 +39,31 @@ module _ (old desk : Desk) (stay : List ℕ) (memory : Memory) (most : ℕ) (is_
   abbrev gone : List ℕ
   gone = filter (λ number. not (has stay number)) (numbers old)
 
-  whole : IsWhole desk.committed
-  whole = subst IsWhole (sym fewer.committed) is_old.whole
+  whole : IsWholeStore desk.committed
+  whole = subst IsWholeStore (sym fewer.committed) is_old.whole
 
-  abbrev Wrote : Desk → Entry → ℕ → Type 0
+  abbrev Wrote : Desk → Active → ℕ → Type 0
   Wrote here entry line = has (due_to here.committed entry).writes line ≡ true
 
   -- one that wrote a line now had written it before
-  wrote-before : (entry : Entry) (line : ℕ) → IsAmong desk.active entry → Wrote desk entry line → (before : Entry) × IsAmong old.active before × (before.number ≡ entry.number) × Wrote old before line
+  wrote-before : (entry : Active) (line : ℕ) → IsAmong desk.active entry → Wrote desk entry line → (before : Active) × IsAmong old.active before × (before.number ≡ entry.number) × Wrote old before line
   wrote-before entry line among wrote =
       let (before, there, number, runs, rows) = fewer.was entry among in
       (before, there, number, (λ i. has (due_locks (runs i).program (runs i).args (sym fewer.committed i) (rows i)).writes line) ∙ wrote)
 
   -- one that stays had written before what it has written
-  wrote-after : (before : Entry) (line : ℕ) → IsAmong old.active before → has (numbers desk) before.number ≡ true → Wrote old before line
-      → (entry : Entry) × IsAmong desk.active entry × (before.runs ≡ entry.runs) × (before.rows ≡ entry.rows) × Wrote desk entry line
+  wrote-after : (before : Active) (line : ℕ) → IsAmong old.active before → has (numbers desk) before.number ≡ true → Wrote old before line
+      → (entry : Active) × IsAmong desk.active entry × (before.runs ≡ entry.runs) × (before.rows ≡ entry.rows) × Wrote desk entry line
   wrote-after before line there inside wrote =
       let (entry, among, own) = number-of desk.active before.number inside in
       let (first, at, number, runs, rows) = fewer.was entry among in
       let same : first ≡ before = one-entry 0 old.next old.active first before is_old.active.ascend at there (number ∙ own) in
-      let runs_are : before.runs ≡ entry.runs = ap (λ (x : Entry). x.runs) (sym same) ∙ runs in
-      let rows_are : before.rows ≡ entry.rows = ap (λ (x : Entry). x.rows) (sym same) ∙ rows in
+      let runs_are : before.runs ≡ entry.runs = ap (λ (x : Active). x.runs) (sym same) ∙ runs in
+      let rows_are : before.rows ≡ entry.rows = ap (λ (x : Active). x.rows) (sym same) ∙ rows in
       (entry, among, runs_are, rows_are, (λ i. has (due_locks (sym runs_are i).program (sym runs_are i).args (fewer.committed i) (sym rows_are i)).writes line) ∙ wrote)
 
   -- a line that is given back is as it is committed
-  back-line : (line : ℕ) → has (flat_map (wrote_by memory) gone) line ≡ true → current desk line ≡ line_in desk.committed.directory desk.committed.bytes line
+  back-line : (line : ℕ) → has (flat_map (wrote_by memory) gone) line ≡ true → current desk line ≡ flat_line desk.committed.directory desk.committed.bytes line
   back-line line inside =
       let (number, out, wrote) = any-some (λ x. has (wrote_by memory x) line) gone (sym (has-joined (wrote_by memory) gone line) ∙ inside) in
       let parts = and_parts (has (numbers old) number) (not (has stay number)) (sym (has-filter (λ n. not (has stay n)) (numbers old) number) ∙ out) in
@@ -71,10 +71,10 @@ module _ (old desk : Desk) (stay : List ℕ) (memory : Memory) (most : ℕ) (is_
       let one_wrote : Wrote old one line = ap (λ (l : List ℕ). has l line) (sym (wrote-is old memory one is there)) ∙ ap (λ (n : ℕ). has (wrote_by memory n) line) own ∙ wrote in
       let holds = wrote-held old.committed old.most_lines old.next old.active is_old.active one line one_wrote in
       current-unwritten desk.committed most desk.next desk.active are line (λ entry among.
-      grind (arith, nat_tests, wrote-before entry line among, λ (before : Entry). holder-or-none old.committed old.most_lines old.next old.active is_old.active one before line there, holds, has-number desk.active entry among, stays number, parts.1, own))
+      grind (arith, nat_tests, wrote-before entry line among, λ (before : Active). holder-or-none old.committed old.most_lines old.next old.active is_old.active one before line there, holds, has-number desk.active entry among, stays number, parts.1, own))
 
   -- any other line is as it was
-  wrote-gone : (some : Entry) (line : ℕ) → IsAmong old.active some → Wrote old some line → has (numbers desk) some.number ≡ false → has (flat_map (wrote_by memory) gone) line ≡ true
+  wrote-gone : (some : Active) (line : ℕ) → IsAmong old.active some → Wrote old some line → has (numbers desk) some.number ≡ false → has (flat_map (wrote_by memory) gone) line ≡ true
   wrote-gone some line there wrote went =
       grind (arith, nat_tests, has-joined (wrote_by memory) gone line, any-at (λ x. has (wrote_by memory x) line) gone some.number, has-filter (λ n. not (has stay n)) (numbers old) some.number, has-number old.active some there, wrote-is old memory some is there)
 
@@ -89,7 +89,7 @@ module _ (old desk : Desk) (stay : List ℕ) (memory : Memory) (most : ℕ) (is_
       ])
       (λ none.
       current-unwritten desk.committed most desk.next desk.active are line (λ entry among. grind (arith, nat_tests, wrote-before entry line among, none))
-      ∙ ap (λ (store : FlatStore). line_in store.directory store.bytes line) fewer.committed)
+      ∙ ap (λ (store : FlatStore). flat_line store.directory store.bytes line) fewer.committed)
 
   pub given-back : IsMemory desk (given_back desk.committed.directory (numbers old) stay memory)
   given-back = record { committed = committed; bytes = bytes; alone = alone }
@@ -103,24 +103,24 @@ module _ (old desk : Desk) (stay : List ℕ) (memory : Memory) (most : ℕ) (is_
       long : length memory.bytes ≡ byte_count desk.committed.directory
       long = now.long ∙ ap (λ (store : FlatStore). byte_count store.directory) (sym fewer.committed)
 
-      line_was : (line : ℕ) → line_in desk.committed.directory memory.bytes line ≡ current old line
-      line_was line = ap (λ (store : FlatStore). line_in store.directory memory.bytes line) fewer.committed ∙ now.lines line
+      line_was : (line : ℕ) → flat_line desk.committed.directory memory.bytes line ≡ current old line
+      line_was line = ap (λ (store : FlatStore). flat_line store.directory memory.bytes line) fewer.committed ∙ now.lines line
 
       then : IsCurrent desk.committed desk.active (current_bytes desk)
       then = bytes-current desk whole
 
       each : (line : ℕ) → (back : Bool) → has (flat_map (wrote_by memory) gone) line ≡ back
-          → line_in desk.committed.directory (current_bytes desk) line ≡ (if back then line_in desk.committed.directory memory.committed line else line_in desk.committed.directory memory.bytes line)
-      each line true e = then.lines line ∙ back-line line e ∙ ap (λ (b : List ℕ). line_in desk.committed.directory b line) (sym committed)
+          → flat_line desk.committed.directory (current_bytes desk) line ≡ (if back then flat_line desk.committed.directory memory.committed line else flat_line desk.committed.directory memory.bytes line)
+      each line true e = then.lines line ∙ back-line line e ∙ ap (λ (b : List ℕ). flat_line desk.committed.directory b line) (sym committed)
       each line false e = then.lines line ∙ kept-line line e ∙ sym (line_was line)
 
-      bytes : laid desk.committed.directory (flat_map (wrote_by memory) gone) memory.committed memory.bytes ≡ current_bytes desk
+      bytes : laid_lines desk.committed.directory (flat_map (wrote_by memory) gone) memory.committed memory.bytes ≡ current_bytes desk
       bytes =
           laid-is desk.committed.directory (flat_map (wrote_by memory) gone) memory.committed memory.bytes (current_bytes desk)
           (ap (λ (b : List ℕ). length b) committed ∙ whole) long then.long
           (λ line. each line (has (flat_map (wrote_by memory) gone) line) refl)
 
-      alone : (entry : Entry) → IsAmong desk.active entry → IsAlone desk.committed entry (memory.machines entry.number)
+      alone : (entry : Active) → IsAmong desk.active entry → IsAlone desk.committed entry (memory.machines entry.number)
       alone entry among = grind (arith, nat_tests, bytes, after-alike, due-alike)
 
 -- a number has its machine
@@ -133,8 +133,8 @@ touches-same : (program : Program) (directory : Layout) (one other first second 
 touches-same program directory one other first second went also plans = grind (arith, nat_tests)
 
 -- A row of a machine, while nobody conflicts.
-module _ (moment : Desk) (attempt : Attempt) (next : Plain) (memory : Memory) (granted : IsGranted attempt moment) (went : attempt.outcome ≡ On next) (is : IsMemory moment memory) where
-  abbrev marked : Entry
+module _ (moment : Desk) (attempt : InFlight) (next : Plain) (memory : Memory) (granted : IsGranted attempt moment) (went : attempt.outcome ≡ On next) (is : IsMemory moment memory) where
+  abbrev marked : Active
   marked = record attempt.entry { waiting = granted.mark }
 
   alone : IsAlone moment.committed (record attempt.entry { waiting = granted.mark }) (memory.machines attempt.entry.number)
@@ -175,12 +175,12 @@ module _ (moment : Desk) (attempt : Attempt) (next : Plain) (memory : Memory) (g
   does : does_row moment.committed.directory (gone_on attempt.entry) (memory.machines attempt.entry.number) memory ≡ then_memory
   does =
       ap (λ (machine : Option Machine). does_row moment.committed.directory (gone_on attempt.entry) machine memory) alone.is
-      ∙ ap (λ (outcome : Outcome). went_on attempt.entry.number (alone.it.wrote ++ (touched attempt.entry.runs.program moment.committed.directory (record alone.it.state { store = memory.bytes })).writes) outcome memory) row-went
+      ∙ ap (λ (outcome : Outcome). memory_went_on attempt.entry.number (alone.it.wrote ++ (touched attempt.entry.runs.program moment.committed.directory (record alone.it.state { store = memory.bytes })).writes) outcome memory) row-went
 
-  then-alone : (entry : Entry) → IsAmong (replaced (gone_on attempt.entry) moment.active) entry → IsAlone moment.committed entry (then_memory.machines entry.number)
+  then-alone : (entry : Active) → IsAmong (replaced (gone_on attempt.entry) moment.active) entry → IsAlone moment.committed entry (then_memory.machines entry.number)
   then-alone entry among = elim (among-replaced (gone_on attempt.entry) moment.active entry among) [
     | inl it ↦
-        subst (λ (x : Entry). IsAlone moment.committed x (then_memory.machines x.number)) it
+        subst (λ (x : Active). IsAlone moment.committed x (then_memory.machines x.number)) it
         (record {
           it = then_machine;
           is = at-own attempt.entry.number (Some then_machine) (memory.machines attempt.entry.number);
@@ -196,35 +196,35 @@ module _ (moment : Desk) (attempt : Attempt) (next : Plain) (memory : Memory) (g
   row-done = subst (IsMemory (row_done attempt moment)) (sym does) (record { committed = is.committed; bytes = refl; alone = then-alone })
 
 -- A commit of a machine.
-module _ (moment desk : Desk) (attempt : Attempt) (memory : Memory) (granted : IsGranted attempt moment)
-    (store_is : desk.committed ≡ left_by moment.committed attempt.now) (active_is : desk.active ≡ others attempt.entry moment.active) (is : IsMemory moment memory) where
+module _ (moment desk : Desk) (attempt : InFlight) (memory : Memory) (granted : IsGranted attempt moment)
+    (store_is : desk.committed ≡ committed_by moment.committed attempt.now) (active_is : desk.active ≡ others attempt.entry moment.active) (is : IsMemory moment memory) where
   before : IsCurrent moment.committed moment.active memory.bytes
   before = memory-current moment memory granted.whole is
 
   long : length attempt.now.store ≡ byte_count moment.committed.directory
   long = after-whole attempt.entry.runs.program attempt.entry.runs.args moment.committed attempt.entry.rows attempt.now granted.whole granted.now
 
-  laid_by : IsLaid moment.committed (due_to moment.committed attempt.entry).writes memory.bytes moment.committed.bytes attempt.now.store
+  laid_by : AreLinesLaid moment.committed (due_to moment.committed attempt.entry).writes memory.bytes moment.committed.bytes attempt.now.store
   laid_by =
       grind (arith, nat_tests, commit-laid moment.committed moment.most_lines moment.next moment.active granted.active memory.bytes, long, before)
 
   each : (line : ℕ) → (wrote : Bool) → has (due_to moment.committed attempt.entry).writes line ≡ wrote
-      → line_in moment.committed.directory attempt.now.store line ≡ (if wrote then line_in moment.committed.directory memory.bytes line else line_in moment.committed.directory moment.committed.bytes line)
+      → flat_line moment.committed.directory attempt.now.store line ≡ (if wrote then flat_line moment.committed.directory memory.bytes line else flat_line moment.committed.directory moment.committed.bytes line)
   each line wrote e = grind (arith, nat_tests, laid_by)
 
   wrote_is : wrote_by memory attempt.entry.number ≡ (due_to moment.committed attempt.entry).writes
   wrote_is = wrote-is moment memory (record attempt.entry { waiting = granted.mark }) is granted.here
 
-  committed : laid desk.committed.directory (wrote_by memory attempt.entry.number) memory.bytes memory.committed ≡ desk.committed.bytes
+  committed : laid_lines desk.committed.directory (wrote_by memory attempt.entry.number) memory.bytes memory.committed ≡ desk.committed.bytes
   committed = grind (arith, nat_tests, wrote_is, laid-is, before, long, whole, each)
 
   current_then : current_bytes moment ≡ current_bytes desk
   current_then =
       grind (arith, nat_tests, commit-current moment.committed moment.most_lines moment.next moment.active (record attempt.entry { waiting = granted.mark }) attempt.now)
 
-  still-alone : (entry : Entry) → IsAmong (others attempt.entry moment.active) entry → IsAlone (left_by moment.committed attempt.now) entry (memory.machines entry.number)
+  still-alone : (entry : Active) → IsAmong (others attempt.entry moment.active) entry → IsAlone (committed_by moment.committed attempt.now) entry (memory.machines entry.number)
   still-alone entry among =
-      let (there, differ) = among-filter (λ (other : Entry). not (other.number == attempt.entry.number)) moment.active entry among in
+      let (there, differ) = among-filter (λ (other : Active). not (other.number == attempt.entry.number)) moment.active entry among in
       let was = is.alone entry there in
       let apart = granted.active.apart entry (record attempt.entry { waiting = granted.mark }) there granted.here (not-true (entry.number == attempt.entry.number) differ) in
       let (bytes, same) =

@@ -1,5 +1,5 @@
 -- The resident pages fit the frames, each once, and are pages of the store.
-use Rattle.desk_law.proofs.Common.{◌≡◌, refl, ℕ, zero, suc, ◌+◌, ◌<◌, ◌≤◌, ◌==◌, Bool, true, false, List, [], ◌∷◌, ◌++◌, length, filter, remove, arith, ap, length-append, or_right, or_parts, position-Some, has, brought, taken_out, has-append, has-filter, Word, Fetching, Fetched, Broken, fetches, AreDistinct, AreResident, nat_tests}
+use Rattle.desk_law.proofs.Common.{◌≡◌, refl, ℕ, zero, suc, ◌+◌, ◌<◌, ◌≤◌, ◌==◌, Bool, true, false, List, [], ◌∷◌, ◌++◌, length, filter, remove, arith, ap, length-append, or_right, or_parts, position-Some, has, brought, taken_out, has-append, has-filter, DiskWord, Fetching, Fetched, Broken, fetches, AreDistinct, AreResident, nat_tests}
 use Rattle.desk_law.proofs.Entries.{filter-short}
 
 -- one page more, which isn't there
@@ -48,7 +48,7 @@ abbrev pub FetchFits : (frames pages : ℕ) → Fetching → Type 0
 FetchFits frames pages (Fetched resident counted) = AreResident frames pages resident
 FetchFits frames pages (Broken counted) = Unit {0}
 
-pub fetches-resident : (word : Word) (frames pages : ℕ) (kept wanted resident : List ℕ) (counted : ℕ) → 1 ≤ frames → AreResident frames pages resident
+pub fetches-resident : (word : DiskWord) (frames pages : ℕ) (kept wanted resident : List ℕ) (counted : ℕ) → 1 ≤ frames → AreResident frames pages resident
     → ((page : ℕ) → has wanted page ≡ true → page < pages) → FetchFits frames pages (fetches word frames kept wanted resident counted)
 fetches-resident word frames pages kept [] resident counted some are below = are
 fetches-resident word frames pages kept (page ∷ wanted) resident counted some are below =

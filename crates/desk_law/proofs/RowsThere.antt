@@ -1,5 +1,5 @@
 -- An instruction of a consistent desk whose lines are all there: nothing is counted but the row, and nothing else changes.
-use Rattle.desk_law.proofs.Common.{nat_lt, ◌≡◌, refl, ℕ, ◌+◌, Bool, true, false, List, [], ◌++◌, length, filter, Some, slice_index_or, arith, ap, sym, ◌∙◌, subst, is_fine_page, has, size, Lines, pages_of, has-append, ArePart, Plain, On, Commit, Check, row, after, Desk, Entry, nobody, with_entry, rolled_back, wanted, requested, conflicts_of, Word, Counts, Going, Over, Checked, Attempt, Fetched, fetches, instruction, lines_written, refuses, lines_within, gets, takes_effect, commits, nat_tests, AreThere, AreAlike, gone_on, IsAmong, due_to, IsOrderly, touched_of, next_attempt, part, ◌||◌}
+use Rattle.desk_law.proofs.Common.{nat_lt, ◌≡◌, refl, ℕ, ◌+◌, Bool, true, false, List, [], ◌++◌, length, filter, Some, slice_index_or, arith, ap, sym, ◌∙◌, subst, is_fine_page, has, size, Lines, pages_of, has-append, ArePart, Plain, On, Commit, Check, row, after, Desk, Active, nobody, with_active, rolled_back, wanted, requested, conflicts_of, DiskWord, Counts, Going, Over, Checked, InFlight, Fetched, fetches, instruction, lines_written, refuses, lines_within, gets, takes_effect, commits, nat_tests, AreLinesThere, AreAlike, gone_on, IsAmong, due_to, IsOrderly, touched_of, next_attempt, part, ◌||◌}
 use Rattle.desk_law.proofs.GoesOn.{due-more, whole-both}
 use Rattle.desk_law.proofs.InstructionStages.{GoesOn, instruction-at, stage-limit, stage-fetched, stage-gets, stage-on}
 use Rattle.desk_law.proofs.LinesThere.{filter-none, fetches-none, there-resident, there-unrefused, there-held, there-lowered}
@@ -7,13 +7,13 @@ use Rattle.desk_law.proofs.Permitted.{held-free, held-written}
 
 -- What an instruction comes to that goes through with nothing fetched, refused or met.
 pub effect-there :
-    (word : Word) (desk : Desk) (counts : Counts) (entry : Entry) (now : Plain) → GoesOn (next_attempt desk entry now).outcome
+    (word : DiskWord) (desk : Desk) (counts : Counts) (entry : Active) (now : Plain) → GoesOn (next_attempt desk entry now).outcome
     → after entry.runs.program entry.runs.args desk.committed entry.rows ≡ Some now
-    → AreThere desk entry.number (wanted desk entry) → conflicts_of desk entry ≡ []
+    → AreLinesThere desk entry.number (wanted desk entry) → conflicts_of desk entry ≡ []
     → nat_lt desk.most_lines (lines_written (next_attempt desk entry now) desk) ≡ false
     → instruction word (Some entry) desk counts ≡ takes_effect word (next_attempt desk entry now) (next_attempt desk entry now).outcome desk counts
 effect-there word desk counts entry now goes at there alone within =
-    let attempt : Attempt = record { entry = entry; now = now; outcome = row entry.runs.program desk.committed.directory now; lines = wanted desk entry } in
+    let attempt : InFlight = record { entry = entry; now = now; outcome = row entry.runs.program desk.committed.directory now; lines = wanted desk entry } in
     let all_there : (counted : ℕ)
     → fetches word desk.frames (pages_of ((wanted desk entry).reads ++ (wanted desk entry).writes)) (pages_of ((wanted desk entry).reads ++ (wanted desk entry).writes)) desk.resident counted ≡ Fetched desk.resident counted =
     λ counted. fetches-none word desk.frames (pages_of ((wanted desk entry).reads ++ (wanted desk entry).writes)) (pages_of ((wanted desk entry).reads ++ (wanted desk entry).writes)) desk.resident counted
@@ -29,24 +29,24 @@ effect-there word desk counts entry now goes at there alone within =
     ∙ ap (λ (locks : ℕ). takes_effect word attempt attempt.outcome desk (record counts { locks = locks })) (omega arith)
 
 -- No active entry is past the limit.
-pub within-most : (desk : Desk) (entry : Entry) → IsOrderly desk → IsAmong desk.active entry → nat_lt desk.most_lines (size (due_to desk.committed entry).writes) ≡ false
+pub within-most : (desk : Desk) (entry : Active) → IsOrderly desk → IsAmong desk.active entry → nat_lt desk.most_lines (size (due_to desk.committed entry).writes) ≡ false
 within-most desk entry is here = grind (arith, nat_tests, (is.active.live entry here).few)
 
 -- A row of an active entry whose lines are there goes on, for every word.
 pub open-row :
-    (word : Word) (desk : Desk) (counts : Counts) (entry : Entry) (now next : Plain) → IsOrderly desk → IsAmong desk.active entry
+    (word : DiskWord) (desk : Desk) (counts : Counts) (entry : Active) (now next : Plain) → IsOrderly desk → IsAmong desk.active entry
     → after entry.runs.program entry.runs.args desk.committed entry.rows ≡ Some now
-    → row entry.runs.program desk.committed.directory now ≡ On next → AreThere desk entry.number (wanted desk entry)
-    → instruction word (Some entry) desk counts ≡ Going (with_entry desk (gone_on entry)) (record counts { ran = counts.ran + 1 })
+    → row entry.runs.program desk.committed.directory now ≡ On next → AreLinesThere desk entry.number (wanted desk entry)
+    → instruction word (Some entry) desk counts ≡ Going (with_active desk (gone_on entry)) (record counts { ran = counts.ran + 1 })
 open-row word desk counts entry now next is here at went there =
     let held : ArePart (requested desk.committed entry) (due_to desk.committed entry) = there-held desk entry is here there in
     effect-there word desk counts entry now (subst GoesOn (sym went) tt) at there (held-free desk entry is here held)
     (ap (nat_lt desk.most_lines) (held-written desk entry held) ∙ within-most desk entry is here)
     ∙ stage-on word (next_attempt desk entry now) desk counts (next_attempt desk entry now).outcome next went
-    ∙ ap (λ (d : Desk). Going (with_entry d (gone_on entry)) (record counts { ran = counts.ran + 1 })) (there-lowered desk entry (next_attempt desk entry now) refl refl is here there)
+    ∙ ap (λ (d : Desk). Going (with_active d (gone_on entry)) (record counts { ran = counts.ran + 1 })) (there-lowered desk entry (next_attempt desk entry now) refl refl is here there)
 
 -- The locks that are due after it are those that were due before.
-pub open-due : (desk : Desk) (entry : Entry) → ArePart (requested desk.committed entry) (due_to desk.committed entry)
+pub open-due : (desk : Desk) (entry : Active) → ArePart (requested desk.committed entry) (due_to desk.committed entry)
     → AreAlike (due_to desk.committed (gone_on entry)) (due_to desk.committed entry)
 open-due desk entry part = record {
   reads = λ line.
@@ -64,7 +64,7 @@ open-due desk entry part = record {
 
 -- The commit call of an active entry comes to its disk at once.
 pub commit-row :
-    (word : Word) (desk : Desk) (counts : Counts) (entry : Entry) (now : Plain) → IsOrderly desk → IsAmong desk.active entry
+    (word : DiskWord) (desk : Desk) (counts : Counts) (entry : Active) (now : Plain) → IsOrderly desk → IsAmong desk.active entry
     → after entry.runs.program entry.runs.args desk.committed entry.rows ≡ Some now
     → row entry.runs.program desk.committed.directory now ≡ Commit
     → instruction word (Some entry) desk counts ≡ commits word (next_attempt desk entry now) desk counts
@@ -72,7 +72,7 @@ commit-row word desk counts entry now is here at went =
     grind (arith, nat_tests, effect-there word desk counts entry now, held-free, held-written)
 
 -- A program check rolls back, whatever is there.
-pub check-row : (word : Word) (desk : Desk) (counts : Counts) (entry : Entry) (now : Plain) (code : ℕ)
+pub check-row : (word : DiskWord) (desk : Desk) (counts : Counts) (entry : Active) (now : Plain) (code : ℕ)
     → after entry.runs.program entry.runs.args desk.committed entry.rows ≡ Some now
     → row entry.runs.program desk.committed.directory now ≡ Check code
     → instruction word (Some entry) desk counts ≡ Over (rolled_back desk entry) counts (Checked code now.iar)

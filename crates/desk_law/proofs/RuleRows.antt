@@ -1,6 +1,6 @@
 -- For each rule of locks a run that breaks once it is taken away. The store has one page. The programs that run get an address in register 2 and a
 -- value in register 3, and what one reads is in its register 4.
-use Rattle.desk_law.proofs.Common.{◌≡◌, refl, ℕ, ◌≤◌, ◌==◌, true, false, List, [], ◌∷◌, length, replicate, slice_index, Option, Some, None, option_map_or, sym, ◌∙◌, ap, inl, inr, both_ways, eq-eqb, FlatStore, IsWhole, Program, Plain, after, conflicts, Begin, Turn, Event, Desk, Entry, opened, requested, due_to, conflicts_of, Word, Fine, IsAmong, Machine, memory_of, lit<, lit≤, Asking, Ran, run_by, RunsAreIsolatedBy}
+use Rattle.desk_law.proofs.Common.{◌≡◌, refl, ℕ, ◌≤◌, ◌==◌, true, false, List, [], ◌∷◌, length, replicate, slice_index, Option, Some, None, option_map_or, sym, ◌∙◌, ap, inl, inr, both_ways, eq-eqb, FlatStore, IsWholeStore, Program, Plain, after, conflicts, Begin, Turn, Event, Desk, Active, opened, requested, due_to, conflicts_of, DiskWord, Fine, IsAmong, Machine, opening_memory, lit<, lit≤, Asking, RunState, run_by, RunsAreIsolatedBy}
 unfoldable use Rattle.desk.proofs.Common.{row_numbered}
 use Rattle.lines.specs.declared.line_geometry.PageSize.TheVariants.{Four, Two}
 unfoldable use Rattle.desk_law.specs.Asking.{instruction_by, turns_by}
@@ -38,11 +38,11 @@ abbrev programs : List Program
 programs = writes ∷ reads ∷ writes_beside ∷ writes_both ∷ []
 
 -- a begin of a program at the first byte of segment 1, with a value
-abbrev begins : (program value : ℕ) → Event × Word
+abbrev begins : (program value : ℕ) → Event × DiskWord
 begins program value = (Begin program (268435456 ∷ value ∷ 0 ∷ 0 ∷ []), Fine)
 
 -- an active entry of a program with its value, after so many rows
-abbrev active : (number : ℕ) → Program → (value rows : ℕ) → Entry
+abbrev active : (number : ℕ) → Program → (value rows : ℕ) → Active
 active number code value rows = record { number = number; runs = record { program = code; args = 268435456 ∷ value ∷ 0 ∷ 0 ∷ [] }; rows = rows; waiting = false }
 
 -- a plain page of 2,048 bytes, and a fine one of 4,096
@@ -60,11 +60,11 @@ abbrev alone : Option Plain → ℕ
 alone state = option_map_or (λ (state : Plain). slice_index state.regs 4) state 0
 
 -- a run from an opening with two frames and room for two
-abbrev runs : Asking → FlatStore → List (Event × Word) → Ran
-runs asking store events = run_by asking [] programs 0 events (opened 2 2 8 store) (memory_of store)
+abbrev runs : Asking → FlatStore → List (Event × DiskWord) → RunState
+runs asking store events = run_by asking [] programs 0 events (opened 2 2 8 store) (opening_memory store)
 
 -- The machine of an active entry has one number in register 4, and the entry alone another: isolation is false.
-broken : (asking : Asking) (store : FlatStore) (events : List (Event × Word)) (entry : Entry) (one other : ℕ) → RunsAreIsolatedBy asking → IsWhole store → IsAmong (runs asking store events).desk.active entry
+broken : (asking : Asking) (store : FlatStore) (events : List (Event × DiskWord)) (entry : Active) (one other : ℕ) → RunsAreIsolatedBy asking → IsWholeStore store → IsAmong (runs asking store events).desk.active entry
     → beside ((runs asking store events).memory.machines entry.number) ≡ one
     → alone (after entry.runs.program entry.runs.args (runs asking store events).desk.committed entry.rows) ≡ other → (one == other) ≡ false → ⊥
 broken asking store events entry one other law whole here machine_has entry_has differ =
@@ -72,11 +72,11 @@ broken asking store events entry one other law whole here machine_has entry_has 
     both_ways (one == other) differ (eq-eqb one other (sym machine_has ∙ ap beside own.is ∙ sym (ap alone own.at) ∙ entry_has))
 
 -- one stored 9 and hasn't committed, and another has stored beside it and then loads there
-abbrev stores_beside : List (Event × Word)
+abbrev stores_beside : List (Event × DiskWord)
 stores_beside = begins 0 9 ∷ begins 2 5 ∷ (Turn 1 1, Fine) ∷ (Turn 2 2, Fine) ∷ []
 
 -- The rules as they stand are the desk's.
-as-they-stand : (desk : Desk) (entry : Entry) → conflicting (λ (at : Desk). requested at.committed) (λ (at : Desk). due_to at.committed) conflicts desk entry ≡ conflicts_of desk entry
+as-they-stand : (desk : Desk) (entry : Active) → conflicting (λ (at : Desk). requested at.committed) (λ (at : Desk). due_to at.committed) conflicts desk entry ≡ conflicts_of desk entry
 as-they-stand desk entry = refl
 
 -- Without the whole page, as without the write bit that goes off, a write bit opens to the second a line that the first has stored: it loads the 9,

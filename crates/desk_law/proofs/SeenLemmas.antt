@@ -1,5 +1,5 @@
 -- The commits that the bytes of a report tell of, also where it is cut.
-use Rattle.desk_law.proofs.Common.{◌==◌, if◌then◌else◌, count_by, nat_eq, flat_map, starts_with, take-append-drop, sum_by-append, Line, line_text, is_commit, whole_lines, commits_seen, IsUnbroken, nat_tests, ◌≡◌, ℕ, ◌+◌, ◌≤◌, Bool, true, false, List, [], ◌∷◌, ◌++◌, take, drop, refl, sym, ap, ◌∙◌, append_assoc, append-nil, cond, codes, arith}
+use Rattle.desk_law.proofs.Common.{◌==◌, if◌then◌else◌, count_by, nat_eq, flat_map, starts_with, take-append-drop, sum_by-append, ReportLine, line_text, is_commit, whole_lines, commits_seen, IsUnbroken, nat_tests, ◌≡◌, ℕ, ◌+◌, ◌≤◌, Bool, true, false, List, [], ◌∷◌, ◌++◌, take, drop, refl, sym, ap, ◌∙◌, append_assoc, append-nil, cond, codes, arith}
 use Rattle.desk_law.proofs.Unbroken.{unbroken_first, unbroken_rest, body_of, text_is, IsPlain, body-unbroken}
 
 -- whether a line without its line feed is a commit's
@@ -30,23 +30,23 @@ whole_first line [] rest is = ap (λ (first : List ℕ). first ∷ whole_lines [
 whole_first line (x ∷ body) rest is = grind (arith, nat_tests, whole_first (line ++ x ∷ []) body rest (unbroken_rest x body is), unbroken_first, unbroken_rest, append_assoc)
 
 -- lines whose names have no line feed
-abbrev pub ArePlain : List Line → Type 0
+abbrev pub ArePlain : List ReportLine → Type 0
 ArePlain [] = Unit {0}
 ArePlain (line ∷ lines) = IsPlain line × ArePlain lines
 
 -- how many of these lines are commits'
-abbrev pub commits_in : List Line → ℕ
+abbrev pub commits_in : List ReportLine → ℕ
 commits_in lines = count_by is_commit lines
 
-pub commits_on : (xs ys : List Line) → commits_in (xs ++ ys) ≡ commits_in xs + commits_in ys
-commits_on xs ys = sum_by-append (λ (line : Line). cond (is_commit line) 1 0) xs ys
+pub commits_on : (xs ys : List ReportLine) → commits_in (xs ++ ys) ≡ commits_in xs + commits_in ys
+commits_on xs ys = sum_by-append (λ (line : ReportLine). cond (is_commit line) 1 0) xs ys
 
-pub plain_on : (xs ys : List Line) → ArePlain xs → ArePlain ys → ArePlain (xs ++ ys)
+pub plain_on : (xs ys : List ReportLine) → ArePlain xs → ArePlain ys → ArePlain (xs ++ ys)
 plain_on [] ys one two = two
 plain_on (x ∷ xs) ys one two = (one.0, plain_on xs ys one.1 two)
 
 -- the commits seen in lines, and in bytes behind them
-pub seen_lines : (lines : List Line) (rest : List ℕ) → ArePlain lines → commits_seen (flat_map line_text lines ++ rest) ≡ commits_in lines + commits_seen rest
+pub seen_lines : (lines : List ReportLine) (rest : List ℕ) → ArePlain lines → commits_seen (flat_map line_text lines ++ rest) ≡ commits_in lines + commits_seen rest
 seen_lines [] rest are = omega arith
 seen_lines (first ∷ lines) rest are =
     let tail : List ℕ = flat_map line_text lines ++ rest in
@@ -58,5 +58,5 @@ seen_lines (first ∷ lines) rest are =
     let split : commits_in (first ∷ lines) ≡ commits_in (first ∷ []) + commits_in lines = commits_on (first ∷ []) lines in
     omega (arith, whole, head, seen_lines lines rest are.1, split)
 
-pub seen_all : (lines : List Line) → ArePlain lines → commits_seen (flat_map line_text lines) ≡ commits_in lines
+pub seen_all : (lines : List ReportLine) → ArePlain lines → commits_seen (flat_map line_text lines) ≡ commits_in lines
 seen_all lines are = grind (arith, nat_tests, seen_lines lines [] are, append-nil (flat_map line_text lines))

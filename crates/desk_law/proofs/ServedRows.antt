@@ -1,6 +1,6 @@
 -- The stages put together: a fault that meets no conflict, and one whose contest left none, go on; and the second attempt of
 -- each finds its lines there.
-use Rattle.desk_law.proofs.Common.{false, nat_lt, ◌≡◌, ℕ, ◌+◌, true, List, [], ◌∷◌, length, filter, map, Some, ap, sym, ◌∙◌, subst, Lines, Plain, On, row, after, Desk, Entry, with_entry, conflicts_of, Word, Fine, Counts, Turning, Going, Attempt, Fetched, fetches, instruction, lines_written, touched_pages, refused_pages, gets, asks, AreAlike, over_all, requested, IsTableBut, kept_conflict, AreStatesBut, IsTold, Reads, gone_on, row_done, IsAmong, due_to, IsReady, served_attempt, IsOrderly, nat_tests, arith}
+use Rattle.desk_law.proofs.Common.{false, nat_lt, ◌≡◌, ℕ, ◌+◌, true, List, [], ◌∷◌, length, filter, map, Some, ap, sym, ◌∙◌, subst, Lines, Plain, On, row, after, Desk, Active, with_active, conflicts_of, DiskWord, Fine, Counts, Turning, Going, InFlight, Fetched, fetches, instruction, lines_written, touched_pages, refused_pages, gets, asks, AreAlike, over_all, requested, IsTableBut, kept_conflict, AreStatesBut, IsTableTold, Reads, gone_on, row_done, IsAmong, due_to, MayGoOn, served_attempt, IsOrderly, nat_tests, arith}
 use Rattle.desk_law.proofs.AttemptsOnCurrent.{wanted-is}
 use Rattle.desk_law.proofs.KeptTables.{conflicts-kept}
 use Rattle.desk_law.proofs.ServedEffect.{got}
@@ -9,17 +9,17 @@ use Rattle.desk_law.proofs.ServesToLocks.{asked_for, serve-asks, serve-ready, se
 use Rattle.desk_law.proofs.ToldSteps.{HasServed, told-served}
 
 -- a row that was served: the instruction, wherever it began, goes on to a consistent desk, of which all is told
-pub record WentOn (begins : Word → Turning) (next : Desk) (more : Counts) (locks requests : ℕ → Lines) (states : ℕ → Plain) (bytes : List ℕ) : Type 0 where
-  pub comes : (word : Word) → Reads word more.pages → begins word ≡ Going next more
+pub record WentOn (begins : DiskWord → Turning) (next : Desk) (more : Counts) (locks requests : ℕ → Lines) (states : ℕ → Plain) (bytes : List ℕ) : Type 0 where
+  pub comes : (word : DiskWord) → Reads word more.pages → begins word ≡ Going next more
   pub consistent : IsOrderly next
-  pub told : IsTold next.committed next.active locks requests states bytes
+  pub told : IsTableTold next.committed next.active locks requests states bytes
 
 -- From where it gets its pages on.
 pub gets-goes :
-    (begins : Word → Turning) (attempt : Attempt) (refused resident : List ℕ) (desk : Desk) (counts : Counts) (counted : ℕ) (locks more requests : ℕ → Lines) (states new : ℕ → Plain) (next shown : Plain) (bytes : List ℕ)
-    → ((word : Word) → Reads word counts.pages → begins word ≡ gets word attempt refused desk counts)
-    → IsReady attempt desk → conflicts_of desk attempt.entry ≡ [] → attempt.outcome ≡ On next
-    → IsTold desk.committed desk.active locks requests states bytes
+    (begins : DiskWord → Turning) (attempt : InFlight) (refused resident : List ℕ) (desk : Desk) (counts : Counts) (counted : ℕ) (locks more requests : ℕ → Lines) (states new : ℕ → Plain) (next shown : Plain) (bytes : List ℕ)
+    → ((word : DiskWord) → Reads word counts.pages → begins word ≡ gets word attempt refused desk counts)
+    → MayGoOn attempt desk → conflicts_of desk attempt.entry ≡ [] → attempt.outcome ≡ On next
+    → IsTableTold desk.committed desk.active locks requests states bytes
     → fetches Fine desk.frames (touched_pages attempt) (touched_pages attempt) desk.resident counts.pages ≡ Fetched resident counted
     → row attempt.entry.runs.program desk.committed.directory (over_all attempt.now bytes) ≡ On shown
     → AreAlike (more attempt.entry.number) (due_to desk.committed (gone_on attempt.entry)) → IsTableBut attempt.entry.number locks more
@@ -34,16 +34,16 @@ gets-goes begins attempt refused resident desk counts counted locks more request
       told = served.told;
     }
 
-module _ (desk : Desk) (counts : Counts) (entry : Entry) (now shown : Plain) (bytes : List ℕ) (is : IsOrderly desk) (here : IsAmong desk.active entry)
+module _ (desk : Desk) (counts : Counts) (entry : Active) (now shown : Plain) (bytes : List ℕ) (is : IsOrderly desk) (here : IsAmong desk.active entry)
     (at : after entry.runs.program entry.runs.args desk.committed entry.rows ≡ Some now)
     (went : row entry.runs.program desk.committed.directory (over_all now bytes) ≡ On shown)
     (within : nat_lt desk.most_lines (lines_written (served_attempt desk entry now bytes) desk) ≡ false)
-    (locks requests : ℕ → Lines) (states : ℕ → Plain) (told : IsTold desk.committed desk.active locks requests states bytes)
+    (locks requests : ℕ → Lines) (states : ℕ → Plain) (told : IsTableTold desk.committed desk.active locks requests states bytes)
     (first : List ℕ) (counted : ℕ)
     (fetched : fetches Fine desk.frames (touched_pages (served_attempt desk entry now bytes)) (touched_pages (served_attempt desk entry now bytes)) desk.resident counts.pages ≡ Fetched first counted) where
   -- Without a conflict it gets its pages at once.
-  pub free-gets : map (λ (other : Entry). other.number) (filter (kept_conflict (asked_for desk.committed.directory (served_attempt desk entry now bytes)) locks entry.number) desk.active) ≡ []
-      → (word : Word) → Reads word counted
+  pub free-gets : map (λ (other : Active). other.number) (filter (kept_conflict (asked_for desk.committed.directory (served_attempt desk entry now bytes)) locks entry.number) desk.active) ≡ []
+      → (word : DiskWord) → Reads word counted
       → instruction word (Some entry) desk counts
       ≡ gets word (served_attempt desk entry now bytes) (refused_pages (served_attempt desk entry now bytes) desk) (record desk { resident = first })
       (record counts { pages = counted; locks = counts.locks + length (refused_pages (served_attempt desk entry now bytes) desk) })
@@ -52,16 +52,16 @@ module _ (desk : Desk) (counts : Counts) (entry : Entry) (now shown : Plain) (by
   alike-asked : AreAlike (asked_for desk.committed.directory (served_attempt desk entry now bytes)) (requested desk.committed entry)
   alike-asked = grind (arith, nat_tests, wanted-is desk entry now shown bytes)
 
-  pub free-none : map (λ (other : Entry). other.number) (filter (kept_conflict (asked_for desk.committed.directory (served_attempt desk entry now bytes)) locks entry.number) desk.active) ≡ []
+  pub free-none : map (λ (other : Active). other.number) (filter (kept_conflict (asked_for desk.committed.directory (served_attempt desk entry now bytes)) locks entry.number) desk.active) ≡ []
       → conflicts_of (record desk { resident = first }) entry ≡ []
   free-none none = sym (conflicts-kept desk locks requests told.kept (asked_for desk.committed.directory (served_attempt desk entry now bytes)) entry alike-asked) ∙ none
 
   -- With a conflict its contest begins, with the kept request that it asks for.
   pub contest-begins : (holder : ℕ) (holders : List ℕ) (asked : ℕ → Lines)
-      → map (λ (other : Entry). other.number) (filter (kept_conflict (asked_for desk.committed.directory (served_attempt desk entry now bytes)) locks entry.number) desk.active) ≡ holder ∷ holders
+      → map (λ (other : Active). other.number) (filter (kept_conflict (asked_for desk.committed.directory (served_attempt desk entry now bytes)) locks entry.number) desk.active) ≡ holder ∷ holders
       → asked entry.number ≡ asked_for desk.committed.directory (served_attempt desk entry now bytes) → IsTableBut entry.number requests asked
       → IsContesting (λ word. instruction word (Some entry) desk counts) (served_attempt desk entry now bytes) (refused_pages (served_attempt desk entry now bytes) desk)
-      (record desk { resident = first }) (with_entry (record desk { resident = first }) (record entry { waiting = true }))
+      (record desk { resident = first }) (with_active (record desk { resident = first }) (record entry { waiting = true }))
       (record counts { pages = counted; locks = counts.locks + length (refused_pages (served_attempt desk entry now bytes) desk) })
       locks asked states bytes
   contest-begins holder holders asked some asked_is but =

@@ -1,5 +1,5 @@
 -- One store of bytes for all entries: it holds every line as it is now, and each row may run over it.
-use Rattle.desk_law.proofs.Common.{◌≡◌, ℕ, ◌+◌, ◌==◌, true, false, List, [], length, Some, ap, sym, ◌∙◌, subst, inl, inr, or_parts, cases_Bool, byte_count, FlatStore, IsWhole, has, Lines, has-append, has_left, has_right, meets-at, Plain, Outcome, On, plan_at, row, touched, after, line_in, all_of, after-whole, after-kept, on, Keeps, Steps, lines_of_plan, row-steps, Desk, Entry, wanted, requested, conflicts_of, gone_on, IsAmong, AreConsistent, current_of, current, IsCurrent, touched_of, arith, nat_tests, Layout, Program}
+use Rattle.desk_law.proofs.Common.{◌≡◌, ℕ, ◌+◌, ◌==◌, true, false, List, [], length, Some, ap, sym, ◌∙◌, subst, inl, inr, or_parts, cases_Bool, byte_count, FlatStore, IsWholeStore, has, Lines, has-append, has_left, has_right, meets-at, Plain, Outcome, On, plan_at, row, touched, after, flat_line, all_of, after-whole, after-kept, on, Keeps, Steps, lines_of_plan, row-steps, Desk, Active, wanted, requested, conflicts_of, gone_on, IsAmong, AreConsistent, current_of, current, IsCurrent, touched_of, arith, nat_tests, Layout, Program}
 use Rattle.desk_law.proofs.Entries.{replaced, one-entry}
 use Rattle.desk_law.proofs.Others.{after-row}
 use Rattle.desk_law.proofs.GoesOn.{nobody-meets}
@@ -7,10 +7,10 @@ use Rattle.desk_law.proofs.CurrentLines.{current-written, current-unwritten, row
 
 -- a line that no other wrote is seen as it is now
 pub current-seen :
-    (store : FlatStore) (most_lines next : ℕ) (entries : List Entry) (entry : Entry) (state : Plain) (line : ℕ) → IsWhole store
+    (store : FlatStore) (most_lines next : ℕ) (entries : List Active) (entry : Active) (state : Plain) (line : ℕ) → IsWholeStore store
     → AreConsistent store most_lines next entries → IsAmong entries entry → after entry.runs.program entry.runs.args store entry.rows ≡ Some state
-    → ((other : Entry) → IsAmong entries other → (other.number == entry.number) ≡ false → has (touched_of store other).writes line ≡ false)
-    → current_of store entries line ≡ line_in store.directory state.store line
+    → ((other : Active) → IsAmong entries other → (other.number == entry.number) ≡ false → has (touched_of store other).writes line ≡ false)
+    → current_of store entries line ≡ flat_line store.directory state.store line
 current-seen store most_lines next entries entry state line whole are here is free =
     elim (cases_Bool (has (touched_of store entry).writes line)) [
       | inl wrote ↦ current-written store most_lines next entries are entry state line here is wrote
@@ -20,11 +20,11 @@ current-seen store most_lines next entries entry state line whole are here is fr
     ]
 
 -- (a') where nobody conflicts, the next row's lines are seen as they are now
-pub current-wanted : (desk : Desk) (most : ℕ) (entry : Entry) (state : Plain) (line : ℕ) → IsWhole desk.committed
+pub current-wanted : (desk : Desk) (most : ℕ) (entry : Active) (state : Plain) (line : ℕ) → IsWholeStore desk.committed
     → AreConsistent desk.committed most desk.next desk.active → IsAmong desk.active entry
     → after entry.runs.program entry.runs.args desk.committed entry.rows ≡ Some state
     → conflicts_of desk entry ≡ [] → has (all_of (wanted desk entry)) line ≡ true
-    → current desk line ≡ line_in desk.committed.directory state.store line
+    → current desk line ≡ flat_line desk.committed.directory state.store line
 current-wanted desk most entry state line whole are here is none wants =
     let meets_at = meets-at (requested desk.committed entry).reads in
     let current_seen = current-seen desk.committed most desk.next desk.active entry state line whole are here is in
@@ -35,14 +35,14 @@ pub lines-of : (p : Program) (d : Layout) (s next : Plain) → row p d s ≡ On 
 lines-of p d s next went = grind (arith, nat_tests)
 
 -- the row of an entry over the bytes of all
-pub record RunsOn (store : FlatStore) (entries : List Entry) (entry : Entry) (now next : Plain) (bytes : List ℕ) : Type 0 where
+pub record RunsOn (store : FlatStore) (entries : List Active) (entry : Active) (now next : Plain) (bytes : List ℕ) : Type 0 where
   pub other : List ℕ
   pub went : row entry.runs.program store.directory (record now { store = bytes }) ≡ On (record next { store = other })
   pub is_current : IsCurrent store (replaced (gone_on entry) entries) other
 
 -- Where nobody conflicts, the row does to the bytes of all what it does to the entry's own.
 pub row-on-current :
-    (desk : Desk) (most : ℕ) (entry : Entry) (now next : Plain) (bytes : List ℕ) → IsWhole desk.committed
+    (desk : Desk) (most : ℕ) (entry : Active) (now next : Plain) (bytes : List ℕ) → IsWholeStore desk.committed
     → AreConsistent desk.committed most desk.next desk.active
     → AreConsistent desk.committed most desk.next (replaced (gone_on entry) desk.active) → IsAmong desk.active entry
     → after entry.runs.program entry.runs.args desk.committed entry.rows ≡ Some now
@@ -54,7 +54,7 @@ row-on-current desk most entry now next bytes whole are later here is went none 
     let lines : wanted desk entry ≡ lines_of_plan entry.runs.program desk.committed.directory (plan_at now) =
     cc (lines-of entry.runs.program desk.committed.directory now next went) in
     let own : length now.store ≡ byte_count desk.committed.directory = after-whole entry.runs.program entry.runs.args desk.committed entry.rows now whole is in
-    let sees : (line : ℕ) → has (all_of (wanted desk entry)) line ≡ true → line_in desk.committed.directory now.store line ≡ line_in desk.committed.directory bytes line =
+    let sees : (line : ℕ) → has (all_of (wanted desk entry)) line ≡ true → flat_line desk.committed.directory now.store line ≡ flat_line desk.committed.directory bytes line =
     λ line wants. sym (current_now.lines line ∙ current-wanted desk most entry now line whole are here is none wants) in
     let stepped : (other : List ℕ) × (row entry.runs.program desk.committed.directory (on now bytes) ≡ On (on next other)) × Keeps desk.committed.directory (lines_of_plan entry.runs.program desk.committed.directory (plan_at now)).writes now.store bytes next.store other =
     subst (λ (outcome : Outcome). Steps desk.committed.directory (lines_of_plan entry.runs.program desk.committed.directory (plan_at now)) now bytes outcome (row entry.runs.program desk.committed.directory (on now bytes))) went

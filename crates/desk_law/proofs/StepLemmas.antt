@@ -1,12 +1,12 @@
 -- What a step of an open desk does to its order, and the lines that it has.
-use Rattle.desk_law.proofs.Common.{◌≡◌, ℕ, ◌≤◌, List, [], ◌∷◌, ◌++◌, length, map, refl, sym, ap, ◌∙◌, arith, append-nil, append_assoc, length-append, inl, inr, ◌⊎◌, flat_map, Program, Event, Desk, Word, Fine, Doubt, Counts, Ending, Turning, turn, Turned, Step, event_of, step, turned, run, begin_if, OpenBeforeEach, Line, number_after, happening_lines, turn_lines, ending_lines, cycle_lines, event_lines, IsUnbroken, EndsInDoubt, nat_tests, true, false, not, Option, IsTrue, slice_get, slice_index_or}
+use Rattle.desk_law.proofs.Common.{◌≡◌, ℕ, ◌≤◌, List, [], ◌∷◌, ◌++◌, length, map, refl, sym, ap, ◌∙◌, arith, append-nil, append_assoc, length-append, inl, inr, ◌⊎◌, flat_map, Program, Event, Desk, DiskWord, Fine, Doubt, Counts, Ending, Turning, turn, Turned, Step, event_of, step, turned, run, begin_if, OpenBeforeEach, ReportLine, number_after, happening_lines, turn_lines, ending_lines, cycle_lines, event_lines, IsUnbroken, EndsInDoubt, nat_tests, true, false, not, Option, IsTrue, slice_get, slice_index_or}
 use Rattle.desk.specs.declared.event.Event.TheVariants as event
-use Rattle.desk.specs.Lines as line
+use Rattle.desk.specs.ReportLines as line
 use Rattle.desk_law.proofs.SeenLemmas.{ArePlain, plain_on, commits_in, commits_on}
 use Rattle.desk_law.proofs.TurnLemmas.{StaysOpen, Ended, Ends, turn_ends}
 
 -- an open desk takes the event
-pub stepped : (programs : List Program) (event : Event) (word : Word) (desk : Desk) → desk.closed ≡ false → step programs event word desk ≡ event_of programs event word desk
+pub stepped : (programs : List Program) (event : Event) (word : DiskWord) (desk : Desk) → desk.closed ≡ false → step programs event word desk ≡ event_of programs event word desk
 stepped programs event word desk was_open = grind (arith, nat_tests)
 
 -- the lines of rollbacks have no commit
@@ -14,12 +14,12 @@ cycles_quiet : (cycles : List (List ℕ)) → commits_in (flat_map cycle_lines c
 cycles_quiet [] = refl
 cycles_quiet (cycle ∷ cycles) = let split = commits_on (cycle_lines cycle) (flat_map cycle_lines cycles) in let rest = cycles_quiet cycles in omega (arith, split, rest)
 
-pub counted_quiet : (activation : ℕ) (counts : Counts) (ends : List Line) → commits_in (line.Turn activation counts.ran counts.pages counts.locks ∷ (flat_map cycle_lines counts.cycles ++ ends)) ≡ commits_in ends
+pub counted_quiet : (activation : ℕ) (counts : Counts) (ends : List ReportLine) → commits_in (line.Turn activation counts.ran counts.pages counts.locks ∷ (flat_map cycle_lines counts.cycles ++ ends)) ≡ commits_in ends
 counted_quiet activation counts ends = grind (arith, nat_tests, commits_on, cycles_quiet)
 
 -- what a step of an open desk did: its order grew by at most one, it has no more commit lines than it made commits and none where it closed the desk,
 -- as many where it left the desk open or its word is no doubt, and it leaves the desk open where its word is fine
-pub record Stepped (word : Word) (order : List (ℕ × ℕ)) (names : List (List ℕ)) (after : Step) : Type 0 where
+pub record Stepped (word : DiskWord) (order : List (ℕ × ℕ)) (names : List (List ℕ)) (after : Step) : Type 0 where
   pub more : List (ℕ × ℕ)
   pub order_is : after.desk.order ≡ order ++ more
   pub one : length more ≤ 1
@@ -28,7 +28,7 @@ pub record Stepped (word : Word) (order : List (ℕ × ℕ)) (names : List (List
   pub settled : (after.desk.closed ≡ false) ⊎ (word ≡ Doubt → ⊥) → (number : ℕ) → length more ≤ commits_in (happening_lines names number after.happening)
   pub stays : word ≡ Fine → after.desk.closed ≡ false
 
-module _ (word : Word) (order : List (ℕ × ℕ)) (names : List (List ℕ)) where
+module _ (word : DiskWord) (order : List (ℕ × ℕ)) (names : List (List ℕ)) where
   -- it stays open, with no commit line
   stayed : (after : Step) → StaysOpen order after.desk → ((number : ℕ) → commits_in (happening_lines names number after.happening) ≡ 0) → Stepped word order names after
   stayed after is none = grind (arith, nat_tests, append-nil order)
@@ -52,16 +52,16 @@ lost_quiet : (lost : List ℕ) → commits_in (map line.Lost lost) ≡ 0
 lost_quiet [] = refl
 lost_quiet (activation ∷ lost) = let split = commits_on (line.Lost activation ∷ []) (map line.Lost lost) in let rest = lost_quiet lost in omega (arith, split, rest)
 
-pub lost_behind : (lost : List ℕ) (last : Line) → commits_in (last ∷ []) ≡ 0 → commits_in (map line.Lost lost ++ last ∷ []) ≡ 0
+pub lost_behind : (lost : List ℕ) (last : ReportLine) → commits_in (last ∷ []) ≡ 0 → commits_in (map line.Lost lost ++ last ∷ []) ≡ 0
 lost_behind lost last none = let split = commits_on (map line.Lost lost) (last ∷ []) in let rest = lost_quiet lost in omega (arith, split, rest, none)
 
-event_by : (programs : List Program) (one : Event) (word : Word) (names : List (List ℕ)) (desk : Desk) → desk.closed ≡ false → Stepped word desk.order names (event_of programs one word desk)
+event_by : (programs : List Program) (one : Event) (word : DiskWord) (names : List (List ℕ)) (desk : Desk) → desk.closed ≡ false → Stepped word desk.order names (event_of programs one word desk)
 event_by programs (event.Begin program args) word names desk is = code_by word desk.order names program args (slice_get programs program) desk (is, refl)
 event_by programs (event.Turn activation limit) word names desk is = turned_by word desk.order names activation (turn word activation limit desk) (turn_ends desk.order word activation limit desk (is, refl))
 event_by programs event.Checkpoint word names desk is = grind (arith, nat_tests, shut_by, stayed)
 event_by programs event.Crash word names desk is = grind (arith, nat_tests, shut_by, lost_behind, stayed)
 
-pub step_by : (programs : List Program) (one : Event) (word : Word) (names : List (List ℕ)) (desk : Desk) → desk.closed ≡ false → Stepped word desk.order names (step programs one word desk)
+pub step_by : (programs : List Program) (one : Event) (word : DiskWord) (names : List (List ℕ)) (desk : Desk) → desk.closed ≡ false → Stepped word desk.order names (step programs one word desk)
 step_by programs one word names desk is = grind (arith, nat_tests, stepped, event_by)
 
 -- the lines of what happened have no line feed in a name
@@ -84,7 +84,7 @@ lost_plain (activation ∷ lost) = (tt, lost_plain lost)
 
 module _ (programs : List Program) (names : List (List ℕ)) (number : ℕ) where
   -- the lines of a run have no line feed in a name
-  pub run_plain : AreNames names → (taken : List (Event × Word)) (desk : Desk) → ArePlain (event_lines names programs number taken desk)
+  pub run_plain : AreNames names → (taken : List (Event × DiskWord)) (desk : Desk) → ArePlain (event_lines names programs number taken desk)
   run_plain are [] desk = tt
   run_plain are (one ∷ taken) desk =
       grind (arith, nat_tests, plain_on, turn_plain, lost_plain, run_plain are taken (step programs one.0 one.1 desk).desk)
@@ -93,26 +93,26 @@ module _ (programs : List Program) (names : List (List ℕ)) (number : ℕ) wher
   open_is desk is = grind (arith, nat_tests)
 
   -- a run that is open at its end, or whose last event didn't end in doubt
-  abbrev pub IsSettled : List (Event × Word) → Desk → Type 0
+  abbrev pub IsSettled : List (Event × DiskWord) → Desk → Type 0
   IsSettled taken desk = ((run programs taken desk).closed ≡ false) ⊎ (EndsInDoubt taken → ⊥)
 
-  settled_first : (one : Event × Word) (taken : List (Event × Word)) (desk : Desk) → OpenBeforeEach programs (one ∷ taken) desk → IsSettled (one ∷ taken) desk → ((step programs one.0 one.1 desk).desk.closed ≡ false) ⊎ (one.1 ≡ Doubt → ⊥)
+  settled_first : (one : Event × DiskWord) (taken : List (Event × DiskWord)) (desk : Desk) → OpenBeforeEach programs (one ∷ taken) desk → IsSettled (one ∷ taken) desk → ((step programs one.0 one.1 desk).desk.closed ≡ false) ⊎ (one.1 ≡ Doubt → ⊥)
   settled_first one [] desk each_open (inl still) = inl still
-  settled_first one [] desk each_open (inr never) = inr (λ is. never ([], one.0, ap (λ (word : Word). (one.0, word) ∷ []) is))
+  settled_first one [] desk each_open (inr never) = inr (λ is. never ([], one.0, ap (λ (word : DiskWord). (one.0, word) ∷ []) is))
   settled_first one (next ∷ taken) desk each_open cause = inl (open_is (step programs one.0 one.1 desk).desk each_open.1.0)
 
-  settled_rest : (one : Event × Word) (taken : List (Event × Word)) (desk : Desk) → IsSettled (one ∷ taken) desk → IsSettled taken (step programs one.0 one.1 desk).desk
+  settled_rest : (one : Event × DiskWord) (taken : List (Event × DiskWord)) (desk : Desk) → IsSettled (one ∷ taken) desk → IsSettled taken (step programs one.0 one.1 desk).desk
   settled_rest one taken desk (inl still) = inl still
-  settled_rest one taken desk (inr never) = inr (λ ends. never (one ∷ ends.0, ends.1, ap (λ (behind : List (Event × Word)). one ∷ behind) ends.2))
+  settled_rest one taken desk (inr never) = inr (λ ends. never (one ∷ ends.0, ends.1, ap (λ (behind : List (Event × DiskWord)). one ∷ behind) ends.2))
 
   -- a run's order is longer, by no fewer commits than its lines have, and as many where it is settled
-  pub record Grew (taken : List (Event × Word)) (desk : Desk) : Type 0 where
+  pub record Grew (taken : List (Event × DiskWord)) (desk : Desk) : Type 0 where
     pub more : List (ℕ × ℕ)
     pub order_is : (run programs taken desk).order ≡ desk.order ++ more
     pub few : commits_in (event_lines names programs number taken desk) ≤ length more
     pub settled : IsSettled taken desk → length more ≤ commits_in (event_lines names programs number taken desk)
 
-  pub run_grew : (taken : List (Event × Word)) (desk : Desk) → OpenBeforeEach programs taken desk → Grew taken desk
+  pub run_grew : (taken : List (Event × DiskWord)) (desk : Desk) → OpenBeforeEach programs taken desk → Grew taken desk
   run_grew [] desk each_open = record { more = []; order_is = sym (append-nil desk.order); few = omega arith; settled = λ cause. omega arith }
   run_grew (one ∷ taken) desk each_open =
       let after = step programs one.0 one.1 desk in

@@ -1,6 +1,6 @@
 -- What a supervisor keeps beside a desk: locks and requests by number, states but for their store, and one list of bytes for
 -- all; and what steps do to it.
-use Rattle.desk_law.proofs.Common.{◌≡◌, ℕ, ◌+◌, ◌==◌, not, Bool, true, List, [], Some, ap, sym, ◌∙◌, subst, inl, inr, not-true, FlatStore, IsWhole, Lines, Plain, On, row, after, after-whole, Desk, Entry, conflicts_of, Word, Counts, Going, Attempt, Fetched, fetches, touched_pages, gets, IsLaid, AreAlike, over_all, requested, IsTableBut, IsState, AreStates, AreStatesBut, IsTold, left_by, gone_on, row_done, IsAmong, due_to, AreConsistent, IsReady, IsOrderly, nat_tests, arith}
+use Rattle.desk_law.proofs.Common.{◌≡◌, ℕ, ◌+◌, ◌==◌, not, Bool, true, List, [], Some, ap, sym, ◌∙◌, subst, inl, inr, not-true, FlatStore, IsWholeStore, Lines, Plain, On, row, after, after-whole, Desk, Active, conflicts_of, DiskWord, Counts, Going, InFlight, Fetched, fetches, touched_pages, gets, AreLinesLaid, AreAlike, over_all, requested, IsTableBut, IsState, AreStates, AreStatesBut, IsTableTold, committed_by, gone_on, row_done, IsAmong, due_to, AreConsistent, MayGoOn, IsOrderly, nat_tests, arith}
 use Rattle.desk_law.proofs.CurrentSteps.{current-rolled, current-committed, commit-laid, current-marked}
 use Rattle.desk_law.proofs.Entries.{replaced, among-replaced, among-filter}
 use Rattle.desk_law.proofs.GoesOn.{apart-turned}
@@ -8,34 +8,34 @@ use Rattle.desk_law.proofs.KeptTables.{kept-row, kept-mark, kept-rollback, kept-
 use Rattle.desk_law.proofs.Others.{others, another-same, after-row}
 use Rattle.desk_law.proofs.ServedEffect.{got, WasServed, served-goes}
 
-module _ (store : FlatStore) (entries : List Entry) (states : ℕ → Plain) (are : AreStates store entries states) where
-  pub states-row : (entry : Entry) (next shown : Plain) (new : ℕ → Plain) → after entry.runs.program entry.runs.args store (entry.rows + 1) ≡ Some next
+module _ (store : FlatStore) (entries : List Active) (states : ℕ → Plain) (are : AreStates store entries states) where
+  pub states-row : (entry : Active) (next shown : Plain) (new : ℕ → Plain) → after entry.runs.program entry.runs.args store (entry.rows + 1) ≡ Some next
       → shown ≡ over_all next shown.store → new entry.number ≡ shown → AreStatesBut entry.number states new
       → AreStates store (replaced (gone_on entry) entries) new
   states-row entry next shown new at shows is but other among = elim (among-replaced (gone_on entry) entries other among) [
     | inl it ↦
-        subst (λ (x : Entry). IsState store x (new x.number)) it
+        subst (λ (x : Active). IsState store x (new x.number)) it
         (record { bytes = next.store; at = at ∙ ap Some (sym (ap (λ (s : Plain). over_all s next.store) (is ∙ shows))) })
     | inr old ↦ subst (IsState store other) (sym (but other.number old.1)) (are other old.0)
   ]
 
-  pub states-mark : (entry : Entry) (mark : Bool) → IsAmong entries entry → AreStates store (replaced (record entry { waiting = mark }) entries) states
+  pub states-mark : (entry : Active) (mark : Bool) → IsAmong entries entry → AreStates store (replaced (record entry { waiting = mark }) entries) states
   states-mark entry mark here other among = grind (arith, nat_tests, among-replaced)
 
-  pub states-rollback : (gone : Entry) → AreStates store (others gone entries) states
-  states-rollback gone other among = are other (among-filter (λ (other : Entry). not (other.number == gone.number)) entries other among).0
+  pub states-rollback : (gone : Active) → AreStates store (others gone entries) states
+  states-rollback gone other among = are other (among-filter (λ (other : Active). not (other.number == gone.number)) entries other among).0
 
-  pub states-commit : (most_lines next : ℕ) (entry : Entry) (now : Plain) → IsWhole store → AreConsistent store most_lines next entries → IsAmong entries entry
-      → after entry.runs.program entry.runs.args store entry.rows ≡ Some now → AreStates (left_by store now) (others entry entries) states
+  pub states-commit : (most_lines next : ℕ) (entry : Active) (now : Plain) → IsWholeStore store → AreConsistent store most_lines next entries → IsAmong entries entry
+      → after entry.runs.program entry.runs.args store entry.rows ≡ Some now → AreStates (committed_by store now) (others entry entries) states
   states-commit most_lines next entry now whole consistent here at other among = grind (arith, nat_tests, among-filter, another-same, apart-turned, not-true)
 
 -- A mark.
 pub told-mark :
-    (store : FlatStore) (most_lines next : ℕ) (entries : List Entry) (locks requests new : ℕ → Lines) (states : ℕ → Plain) (bytes : List ℕ) (entry : Entry)
+    (store : FlatStore) (most_lines next : ℕ) (entries : List Active) (locks requests new : ℕ → Lines) (states : ℕ → Plain) (bytes : List ℕ) (entry : Active)
     → AreConsistent store most_lines next entries → AreConsistent store most_lines next (replaced (record entry { waiting = true }) entries)
-    → IsAmong entries entry → IsTold store entries locks requests states bytes
+    → IsAmong entries entry → IsTableTold store entries locks requests states bytes
     → AreAlike (new entry.number) (requested store entry) → IsTableBut entry.number requests new
-    → IsTold store (replaced (record entry { waiting = true }) entries) locks new states bytes
+    → IsTableTold store (replaced (record entry { waiting = true }) entries) locks new states bytes
 told-mark store most_lines next entries locks requests new states bytes entry are later here told alike but =
     grind (
       arith,
@@ -47,10 +47,10 @@ told-mark store most_lines next entries locks requests new states bytes entry ar
 
 -- A rollback.
 pub told-rollback :
-    (store : FlatStore) (most_lines next : ℕ) (entries : List Entry) (locks requests : ℕ → Lines) (states : ℕ → Plain) (bytes new : List ℕ) (gone : Entry)
-    → AreConsistent store most_lines next entries → IsAmong entries gone → IsTold store entries locks requests states bytes
-    → IsLaid store (due_to store gone).writes store.bytes bytes new
-    → IsTold store (others gone entries) locks requests states new
+    (store : FlatStore) (most_lines next : ℕ) (entries : List Active) (locks requests : ℕ → Lines) (states : ℕ → Plain) (bytes new : List ℕ) (gone : Active)
+    → AreConsistent store most_lines next entries → IsAmong entries gone → IsTableTold store entries locks requests states bytes
+    → AreLinesLaid store (due_to store gone).writes store.bytes bytes new
+    → IsTableTold store (others gone entries) locks requests states new
 told-rollback store most_lines next entries locks requests states bytes new gone are here told laid =
     grind (
       arith,
@@ -62,13 +62,13 @@ told-rollback store most_lines next entries locks requests states bytes new gone
 
 -- A commit: neither bytes nor tables change, and the committed store becomes the entry's, which is the old one with the lines
 -- that it wrote laid over from those bytes.
-pub record HasCommitted (store : FlatStore) (entries : List Entry) (locks requests : ℕ → Lines) (states : ℕ → Plain) (bytes : List ℕ) (entry : Entry) (now : Plain) : Type 0 where
-  pub told : IsTold (left_by store now) (others entry entries) locks requests states bytes
-  pub record_lines : IsLaid store (due_to store entry).writes bytes store.bytes now.store
+pub record HasCommitted (store : FlatStore) (entries : List Active) (locks requests : ℕ → Lines) (states : ℕ → Plain) (bytes : List ℕ) (entry : Active) (now : Plain) : Type 0 where
+  pub told : IsTableTold (committed_by store now) (others entry entries) locks requests states bytes
+  pub record_lines : AreLinesLaid store (due_to store entry).writes bytes store.bytes now.store
 
 pub told-commit :
-    (store : FlatStore) (most_lines next : ℕ) (entries : List Entry) (locks requests : ℕ → Lines) (states : ℕ → Plain) (bytes : List ℕ) (entry : Entry) (now : Plain)
-    → IsWhole store → AreConsistent store most_lines next entries → IsAmong entries entry → IsTold store entries locks requests states bytes
+    (store : FlatStore) (most_lines next : ℕ) (entries : List Active) (locks requests : ℕ → Lines) (states : ℕ → Plain) (bytes : List ℕ) (entry : Active) (now : Plain)
+    → IsWholeStore store → AreConsistent store most_lines next entries → IsAmong entries entry → IsTableTold store entries locks requests states bytes
     → after entry.runs.program entry.runs.args store entry.rows ≡ Some now
     → HasCommitted store entries locks requests states bytes entry now
 told-commit store most_lines next entries locks requests states bytes entry now whole are here told at =
@@ -84,17 +84,17 @@ told-commit store most_lines next entries locks requests states bytes entry now 
 
 -- A row that was served: its locks are those of the row too, its mark is off, and the state and the bytes are those that the
 -- second attempt left.
-pub record HasServed (attempt : Attempt) (refused resident : List ℕ) (desk : Desk) (counts : Counts) (counted : ℕ) (locks requests : ℕ → Lines) (states : ℕ → Plain) (shown : Plain) : Type 0 where
-  pub comes : (word : Word) → fetches word desk.frames (touched_pages attempt) (touched_pages attempt) desk.resident counts.pages ≡ Fetched resident counted
+pub record HasServed (attempt : InFlight) (refused resident : List ℕ) (desk : Desk) (counts : Counts) (counted : ℕ) (locks requests : ℕ → Lines) (states : ℕ → Plain) (shown : Plain) : Type 0 where
+  pub comes : (word : DiskWord) → fetches word desk.frames (touched_pages attempt) (touched_pages attempt) desk.resident counts.pages ≡ Fetched resident counted
       → gets word attempt refused desk counts
       ≡ Going (row_done attempt (got attempt refused resident desk)) (record counts { pages = counted; ran = counts.ran + 1 })
   pub consistent : IsOrderly (row_done attempt (got attempt refused resident desk))
-  pub told : IsTold desk.committed (replaced (gone_on attempt.entry) desk.active) locks requests states shown.store
+  pub told : IsTableTold desk.committed (replaced (gone_on attempt.entry) desk.active) locks requests states shown.store
 
 pub told-served :
-    (attempt : Attempt) (refused resident : List ℕ) (desk : Desk) (counts : Counts) (counted : ℕ) (locks more requests : ℕ → Lines) (states new : ℕ → Plain) (next shown : Plain) (bytes : List ℕ)
-    → IsReady attempt desk → conflicts_of desk attempt.entry ≡ [] → attempt.outcome ≡ On next
-    → IsTold desk.committed desk.active locks requests states bytes
+    (attempt : InFlight) (refused resident : List ℕ) (desk : Desk) (counts : Counts) (counted : ℕ) (locks more requests : ℕ → Lines) (states new : ℕ → Plain) (next shown : Plain) (bytes : List ℕ)
+    → MayGoOn attempt desk → conflicts_of desk attempt.entry ≡ [] → attempt.outcome ≡ On next
+    → IsTableTold desk.committed desk.active locks requests states bytes
     → row attempt.entry.runs.program desk.committed.directory (over_all attempt.now bytes) ≡ On shown
     → AreAlike (more attempt.entry.number) (due_to desk.committed (gone_on attempt.entry)) → IsTableBut attempt.entry.number locks more
     → new attempt.entry.number ≡ shown → AreStatesBut attempt.entry.number states new
@@ -102,7 +102,7 @@ pub told-served :
 told-served attempt refused resident desk counts counted locks more requests states new next shown bytes ready none goes told went alike but_locks new_is but =
     let served : WasServed attempt refused resident desk counts counted shown =
     served-goes attempt refused resident desk counts counted next shown bytes ready none goes told.is_current went in
-    let marked : Entry = record attempt.entry { waiting = ready.mark } in
+    let marked : Active = record attempt.entry { waiting = ready.mark } in
     record {
       comes = served.comes;
       consistent = served.consistent;

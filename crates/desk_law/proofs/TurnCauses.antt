@@ -1,5 +1,5 @@
 -- Each end of a turn has its cause.
-use Rattle.desk_law.proofs.Common.{◌≡◌, refl, ℕ, zero, suc, ◌+◌, ◌<◌, ◌==◌, Bool, true, false, List, [], ◌∷◌, ◌++◌, length, find, Option, Some, None, arith, ap, sym, ◌∙◌, subst, eqb-true, ltb-true, brought, victim_of, Plain, Outcome, Commit, Check, row, after, Desk, Entry, with_entry, conflicts_of, Word, ReadFailed, Unwritten, Doubt, Counts, Turning, Going, Over, Idle, Limit, Checked, Journal, Disk, Victim, Waits, Committed, CommitUnwritten, CommitDoubted, Attempt, Fetching, Fetched, Broken, Contest, Contested, Settled, Lost, attempts, attempts_at, instruction, turns, turn_of, no_counts, fetches, lines_written, asks, gets, takes_effect, contest_ends, waits_or_gets, breaks_cycles, RowIs, EndsForCause, IsOverFor, TurnsEndForCause, turn_desk, gone_on, IsAmong, IsConsistent, nat_tests, next_attempt, contest}
+use Rattle.desk_law.proofs.Common.{◌≡◌, refl, ℕ, zero, suc, ◌+◌, ◌<◌, ◌==◌, Bool, true, false, List, [], ◌∷◌, ◌++◌, length, find, Option, Some, None, arith, ap, sym, ◌∙◌, subst, eqb-true, ltb-true, brought, victim_of, Plain, Outcome, Commit, Check, row, after, Desk, Active, with_active, conflicts_of, DiskWord, ReadFailed, Unwritten, Doubt, Counts, Turning, Going, Over, Idle, Limit, Checked, Journal, Disk, Victim, Waits, Committed, CommitUnwritten, CommitDoubted, InFlight, Fetching, Fetched, Broken, Contest, Contested, Settled, Lost, attempts, attempts_at, instruction, turns, turn_of, no_counts, fetches, lines_written, asks, gets, takes_effect, contest_ends, waits_or_gets, breaks_cycles, RowIs, EndsForCause, IsOverFor, TurnsEndForCause, turn_desk, gone_on, IsAmong, IsConsistent, nat_tests, next_attempt, contest}
 use Rattle.desk_law.proofs.Entries.{found-among, new-among}
 use Rattle.desk_law.proofs.Contest.{VictimsKeep, victims-keep}
 use Rattle.desk_law.proofs.ContestRounds.{asker-left}
@@ -7,11 +7,11 @@ use Rattle.desk_law.proofs.ConsistentLaw.{instruction-consistent}
 use Rattle.desk_law.proofs.LeftLemmas.{went}
 
 -- a page that can't be read is the last one counted
-abbrev FetchCause : Word → Fetching → Type 0
+abbrev FetchCause : DiskWord → Fetching → Type 0
 FetchCause word (Fetched resident counted) = Unit {0}
 FetchCause word (Broken counted) = word ≡ ReadFailed counted
 
-fetch-cause : (word : Word) (frames : ℕ) (kept pages resident : List ℕ) (counted : ℕ) → FetchCause word (fetches word frames kept pages resident counted)
+fetch-cause : (word : DiskWord) (frames : ℕ) (kept pages resident : List ℕ) (counted : ℕ) → FetchCause word (fetches word frames kept pages resident counted)
 fetch-cause word frames kept [] resident counted = tt
 fetch-cause word frames kept (page ∷ pages) resident counted = grind (arith, nat_tests, fetch-cause word frames kept pages resident counted, fetch-cause word frames kept pages (brought frames kept resident page) (counted + 1))
 
@@ -20,7 +20,7 @@ abbrev LastVictim : ℕ → Counts → Type 0
 LastVictim number counts = (front : List (List ℕ)) × (cycle : List ℕ) × (counts.cycles ≡ front ++ cycle ∷ []) × (victim_of cycle ≡ number)
 
 -- an attempt under way: the entry is active, with some mark, and no row was done
-record Stays (old : Desk) (base : Counts) (entry : Entry) (desk : Desk) (counts : Counts) : Type 0 where
+record Stays (old : Desk) (base : Counts) (entry : Active) (desk : Desk) (counts : Counts) : Type 0 where
   committed : desk.committed ≡ old.committed
   limit : desk.most_lines ≡ old.most_lines
   ran : counts.ran ≡ base.ran
@@ -28,7 +28,7 @@ record Stays (old : Desk) (base : Counts) (entry : Entry) (desk : Desk) (counts 
   here : IsAmong desk.active (record entry { waiting = mark })
 
 -- what an instruction comes to, and why
-abbrev Comes : Word → Attempt → (old : Desk) → (base : Counts) → Turning → Type 0
+abbrev Comes : DiskWord → InFlight → (old : Desk) → (base : Counts) → Turning → Type 0
 Comes word attempt old base (Going desk counts) =
     IsAmong desk.active (gone_on attempt.entry) × (desk.committed ≡ old.committed) × (desk.most_lines ≡ old.most_lines) × (counts.ran ≡ base.ran + 1)
 Comes word attempt old base (Over desk counts Idle) = ⊥
@@ -45,18 +45,18 @@ Comes word attempt old base (Over desk counts CommitUnwritten) = (counts.ran ≡
 Comes word attempt old base (Over desk counts CommitDoubted) = (counts.ran ≡ base.ran) × (word ≡ Doubt) × (attempt.outcome ≡ Commit)
 
 -- a contest leaves the entry marked, or it was the victim
-record Marked (old : Desk) (base : Counts) (entry : Entry) (desk : Desk) (counts : Counts) : Type 0 where
+record Marked (old : Desk) (base : Counts) (entry : Active) (desk : Desk) (counts : Counts) : Type 0 where
   committed : desk.committed ≡ old.committed
   limit : desk.most_lines ≡ old.most_lines
   ran : counts.ran ≡ base.ran
   here : IsAmong desk.active (record entry { waiting = true })
 
-abbrev ContestComes : Desk → Counts → Entry → Contest → Type 0
+abbrev ContestComes : Desk → Counts → Active → Contest → Type 0
 ContestComes old base entry (Contested desk counts) = Marked old base entry desk counts
 ContestComes old base entry (Settled desk counts) = Marked old base entry desk counts
 ContestComes old base entry (Lost desk counts) = LastVictim entry.number counts
 
-contest-comes : (old : Desk) (base : Counts) (entry : Entry) (left : ℕ) (contest : Contest) → ContestComes old base entry contest → ContestComes old base entry (breaks_cycles left entry.number contest)
+contest-comes : (old : Desk) (base : Counts) (entry : Active) (left : ℕ) (contest : Contest) → ContestComes old base entry contest → ContestComes old base entry (breaks_cycles left entry.number contest)
 contest-comes old base entry left contest is = victims-keep (ContestComes old base entry) entry.number (λ desk counts is. is) by_victim left contest is
   where
     by_victim : VictimsKeep (ContestComes old base entry) entry.number
@@ -65,7 +65,7 @@ contest-comes old base entry left contest is = victims-keep (ContestComes old ba
     by_victim desk counts cycle (Some victim) false is found e =
         record { committed = is.committed; limit = is.limit; ran = is.ran; here = asker-left desk (record entry { waiting = true }) victim cycle is.here found e }
 
-module _ (word : Word) (attempt : Attempt) (old : Desk) (base : Counts) where
+module _ (word : DiskWord) (attempt : InFlight) (old : Desk) (base : Counts) where
   come-effect : (desk : Desk) (counts : Counts) (outcome : Outcome) → attempt.outcome ≡ outcome → Stays old base attempt.entry desk counts → Comes word attempt old base (takes_effect word attempt outcome desk counts)
   come-effect desk counts outcome went stays =
       let new_among = new-among (gone_on attempt.entry) desk.active (record attempt.entry { waiting = stays.mark })
@@ -87,8 +87,8 @@ module _ (word : Word) (attempt : Attempt) (old : Desk) (base : Counts) where
   come-ask refused [] desk counts stays = come-get refused desk counts stays
   come-ask refused (holder ∷ holders) desk counts stays =
       come-contest refused
-      (breaks_cycles (length desk.active) attempt.entry.number (Contested (with_entry desk (record attempt.entry { waiting = true })) counts))
-      (contest-comes old base attempt.entry (length desk.active) (Contested (with_entry desk (record attempt.entry { waiting = true })) counts)
+      (breaks_cycles (length desk.active) attempt.entry.number (Contested (with_active desk (record attempt.entry { waiting = true })) counts))
+      (contest-comes old base attempt.entry (length desk.active) (Contested (with_active desk (record attempt.entry { waiting = true })) counts)
       (record {
         committed = stays.committed;
         limit = stays.limit;
@@ -100,7 +100,7 @@ module _ (word : Word) (attempt : Attempt) (old : Desk) (base : Counts) where
   come-attempt outcome went stays = grind (arith, nat_tests, ltb-true, come-ask, fetch-cause)
 
 -- an instruction of an active entry
-come-instruction : (word : Word) (desk : Desk) (counts : Counts) (entry : Entry) (now : Plain) → IsAmong desk.active entry
+come-instruction : (word : DiskWord) (desk : Desk) (counts : Counts) (entry : Active) (now : Plain) → IsAmong desk.active entry
     → after entry.runs.program entry.runs.args desk.committed entry.rows ≡ Some now
     → Comes word (next_attempt desk entry now) desk counts (instruction word (Some entry) desk counts)
 unfolding instruction
@@ -110,23 +110,23 @@ come-instruction word desk counts entry now here at =
     (record { committed = refl; limit = refl; ran = refl; mark = entry.waiting; here = here }))
 
 -- a turn under way: the entry has done so many rows more
-record Under (limit left : ℕ) (start : Desk) (first : Entry) (desk : Desk) (counts : Counts) : Type 0 where
+record Under (limit left : ℕ) (start : Desk) (first : Active) (desk : Desk) (counts : Counts) : Type 0 where
   is : IsConsistent desk
   committed : desk.committed ≡ start.committed
   most : desk.most_lines ≡ start.most_lines
-  entry : Entry
+  entry : Active
   here : IsAmong desk.active entry
   number : entry.number ≡ first.number
   runs : entry.runs ≡ first.runs
   rows : entry.rows ≡ first.rows + counts.ran
   left_is : counts.ran + left ≡ limit
 
-abbrev IsUnder : Word → (limit left : ℕ) → Desk → Entry → Turning → Type 0
+abbrev IsUnder : DiskWord → (limit left : ℕ) → Desk → Active → Turning → Type 0
 IsUnder word limit left start first (Going desk counts) = Under limit left start first desk counts
 IsUnder word limit left start first (Over desk counts ending) = EndsForCause word limit start first desk counts ending
 
 -- from one instruction to the turn
-module _ (word : Word) (limit left : ℕ) (start : Desk) (first : Entry) (desk : Desk) (counts : Counts) (under : Under limit (suc left) start first desk counts) (now : Plain)
+module _ (word : DiskWord) (limit left : ℕ) (start : Desk) (first : Active) (desk : Desk) (counts : Counts) (under : Under limit (suc left) start first desk counts) (now : Plain)
     (at : after under.entry.runs.program under.entry.runs.args desk.committed under.entry.rows ≡ Some now) where
   its-row : (ran : ℕ) (outcome : Outcome) → ran ≡ counts.ran → row under.entry.runs.program desk.committed.directory now ≡ outcome → RowIs start.committed first ran now outcome
   its-row ran outcome same went = grind (arith, nat_tests)
@@ -153,14 +153,14 @@ module _ (word : Word) (limit left : ℕ) (start : Desk) (first : Entry) (desk :
   cause-instruction (Over later more CommitDoubted) is comes = (comes.1, (now, its-row more.ran Commit comes.0 comes.2))
   cause-instruction _ is comes = absurd comes
 
-cause-turns : (word : Word) (limit left : ℕ) (start : Desk) (first : Entry) (turning : Turning) → IsUnder word limit left start first turning → IsOverFor word limit start first (turns word first.number left turning)
+cause-turns : (word : DiskWord) (limit left : ℕ) (start : Desk) (first : Active) (turning : Turning) → IsUnder word limit left start first turning → IsOverFor word limit start first (turns word first.number left turning)
 unfolding turns
 cause-turns word limit zero start first (Going desk counts) under = omega (arith, under.left_is)
 cause-turns word limit (suc left) start first (Going desk counts) under =
     let live = under.is.active.live under.entry under.here in
-    cause-turns word limit left start first (instruction word (find (λ (entry : Entry). entry.number == first.number) desk.active) desk counts)
-    (subst (λ (one : Option Entry). IsUnder word limit left start first (instruction word one desk counts))
-    (sym (ap (λ (n : ℕ). find (λ (entry : Entry). entry.number == n) desk.active) (sym under.number) ∙ found-among desk.next desk.active under.entry under.is.active.ascend under.here))
+    cause-turns word limit left start first (instruction word (find (λ (entry : Active). entry.number == first.number) desk.active) desk counts)
+    (subst (λ (one : Option Active). IsUnder word limit left start first (instruction word one desk counts))
+    (sym (ap (λ (n : ℕ). find (λ (entry : Active). entry.number == n) desk.active) (sym under.number) ∙ found-among desk.next desk.active under.entry under.is.active.ascend under.here))
     (cause-instruction word limit left start first desk counts under live.state live.is (instruction word (Some under.entry) desk counts)
     (instruction-consistent word desk counts under.entry under.is under.here)
     (come-instruction word desk counts under.entry live.state under.here live.is)))
@@ -168,6 +168,6 @@ cause-turns word limit _ start first (Over desk counts ending) cause = cause
 
 pub turns-end-for-cause : TurnsEndForCause
 turns-end-for-cause word limit desk entry is here =
-    subst (λ (one : Option Entry). IsOverFor word limit desk entry (turn_of one word entry.number limit desk)) (sym (found-among desk.next desk.active entry is.active.ascend here))
+    subst (λ (one : Option Active). IsOverFor word limit desk entry (turn_of one word entry.number limit desk)) (sym (found-among desk.next desk.active entry is.active.ascend here))
     (cause-turns word limit limit desk entry (Going desk no_counts)
     (record { is = is; committed = refl; most = refl; entry = entry; here = here; number = refl; runs = refl; rows = omega arith; left_is = omega arith }))

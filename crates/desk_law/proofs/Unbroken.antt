@@ -1,9 +1,9 @@
 -- Bytes without a line feed, and the lines of a report.
-use Rattle.desk_law.proofs.Common.{◌==◌, ◌||◌, slice_index, decimal, list_any, join_with_byte, Line, line_text, printed, IsUnbroken, nat_tests, ◌≡◌, ℕ, zero, suc, ◌/◌, ◌%◌, Bool, false, List, [], ◌∷◌, ◌++◌, map, refl, codes, arith}
+use Rattle.desk_law.proofs.Common.{◌==◌, ◌||◌, slice_index, decimal, list_any, join_with_byte, ReportLine, line_text, printed, IsUnbroken, nat_tests, ◌≡◌, ℕ, zero, suc, ◌/◌, ◌%◌, Bool, false, List, [], ◌∷◌, ◌++◌, map, refl, codes, arith}
 use Rattle.std.specs.Fmt.{digits, digits_onto, digit_glyph}
 use Rattle.byteorder.specs.Endian.{big_bytes}
 use Rattle.hex.specs.Hex.{encode_with, encode_lower}
-use Rattle.desk.specs.Lines as line
+use Rattle.desk.specs.ReportLines as line
 
 or_parts : (a b : Bool) → a || b ≡ false → (a ≡ false) × (b ≡ false)
 or_parts a b h1 = grind (arith, nat_tests)
@@ -59,7 +59,7 @@ decimals-unbroken [] = tt
 decimals-unbroken (number ∷ numbers) = (decimal-unbroken number, decimals-unbroken numbers)
 
 -- the words of a line
-abbrev pub words_of : Line → List (List ℕ)
+abbrev pub words_of : ReportLine → List (List ℕ)
 words_of (line.Open number) = codes "open" ∷ decimal number ∷ []
 words_of (line.Begin activation name) = codes "begin" ∷ decimal activation ∷ name ∷ []
 words_of (line.Busy activation name) = codes "busy" ∷ decimal activation ∷ name ∷ []
@@ -85,21 +85,21 @@ words_of (line.Left activation) = codes "left" ∷ decimal activation ∷ []
 words_of (line.End number) = codes "end" ∷ decimal number ∷ []
 
 -- the bytes of a line without its line feed
-abbrev pub body_of : Line → List ℕ
+abbrev pub body_of : ReportLine → List ℕ
 body_of line = join_with_byte 32 (words_of line)
 
-pub text_is : (one : Line) → line_text one ≡ body_of one ++ 10 ∷ []
+pub text_is : (one : ReportLine) → line_text one ≡ body_of one ++ 10 ∷ []
 text_is one = grind (arith, nat_tests)
 
 -- a line whose name, if it has one, has no line feed
-abbrev pub IsPlain : Line → Type 0
+abbrev pub IsPlain : ReportLine → Type 0
 IsPlain (line.Begin activation name) = IsUnbroken name
 IsPlain (line.Busy activation name) = IsUnbroken name
 IsPlain (line.NoSegment activation name segment) = IsUnbroken name
 IsPlain _ = Unit {0}
 
-words-unbroken : (one : Line) → IsPlain one → AreUnbroken (words_of one)
+words-unbroken : (one : ReportLine) → IsPlain one → AreUnbroken (words_of one)
 words-unbroken one is = grind (arith, nat_tests, decimals-unbroken, decimal-unbroken, printed-unbroken, hex-unbroken)
 
-pub body-unbroken : (one : Line) → IsPlain one → IsUnbroken (body_of one)
+pub body-unbroken : (one : ReportLine) → IsPlain one → IsUnbroken (body_of one)
 body-unbroken one is = joined-unbroken (words_of one) (words-unbroken one is)

@@ -1,10 +1,10 @@
 -- A row of which no entry refuses a line.
-use Rattle.desk_law.proofs.Common.{◌≡◌, refl, ℕ, ◌<◌, true, List, [], length, Some, arith, ap, subst, is_fine_page, has, page_of_line, Plain, after, all_of, touched-below, Desk, Entry, Grant, conflicts_of, wanted, gets, granted, refused_pages, IsAmong, ArePermitted, IsOrderly, Word, Counts, next_attempt, nat_tests, counts_refused, UnrefusedAsksNothing}
+use Rattle.desk_law.proofs.Common.{◌≡◌, refl, ℕ, ◌<◌, true, List, [], length, Some, arith, ap, subst, is_fine_page, has, page_of_line, Plain, after, all_of, touched-below, Desk, Active, Grant, conflicts_of, wanted, gets, granted, refused_pages, IsAmong, ArePermitted, IsOrderly, DiskWord, Counts, next_attempt, nat_tests, counts_refused, UnrefusedAsksNothing}
 use Rattle.desk_law.proofs.Granted.{granted-permits}
 use Rattle.desk_law.proofs.Entries.{orderly}
 use Rattle.desk_law.proofs.Permitted.{permitted-held, held-free}
 
-module _ (desk : Desk) (entry : Entry) (now : Plain) (is : IsOrderly desk) (among : IsAmong desk.active entry)
+module _ (desk : Desk) (entry : Active) (now : Plain) (is : IsOrderly desk) (among : IsAmong desk.active entry)
     (at : after entry.runs.program entry.runs.args desk.committed entry.rows ≡ Some now) (none : refused_pages (next_attempt desk entry now) desk ≡ []) where
   below : (line : ℕ) → has (all_of (wanted desk entry)) line ≡ true → page_of_line line < length desk.authority
   below line inside = grind (arith, nat_tests, touched-below entry.runs.program desk.committed.directory now line)
@@ -19,7 +19,7 @@ module _ (desk : Desk) (entry : Entry) (now : Plain) (is : IsOrderly desk) (amon
   free = held-free desk entry is among (permitted-held desk entry is among permitted_all)
 
 -- it gets on without asking
-pub unrefused-gets : (word : Word) (desk : Desk) (counts : Counts) (entry : Entry) (now : Plain) → IsOrderly desk → IsAmong desk.active entry
+pub unrefused-gets : (word : DiskWord) (desk : Desk) (counts : Counts) (entry : Active) (now : Plain) → IsOrderly desk → IsAmong desk.active entry
     → after entry.runs.program entry.runs.args desk.committed entry.rows ≡ Some now → refused_pages (next_attempt desk entry now) desk ≡ []
     → (conflicts_of desk entry ≡ []) × (counts_refused word (next_attempt desk entry now) desk counts ≡ gets word (next_attempt desk entry now) [] desk counts)
 unrefused-gets word desk counts entry now is among at none = grind (arith, nat_tests, free)

@@ -3,16 +3,16 @@ pub use Rattle.std.specs.List.{flat_map, list_any, range_with_len}
 pub use Rattle.std.specs.Option.{option_map_or}
 pub use Rattle.desk.specs.Commits.{begun, IsSerial}
 pub use Rattle.desk.specs.Crash.{fine_step, standing_of}
-pub use Rattle.desk.specs.Desk.{Desk, ended, Entry, opened, rolled_back, with_entry}
+pub use Rattle.desk.specs.Desk.{Desk, ended, Active, opened, rolled_back, with_active}
 pub use Rattle.desk.specs.Holdings.{conflicts_of, due_to, numbers, requested, waits_for, wanted}
-pub use Rattle.desk.specs.Instruction.{asks, Attempt, attempts, breaks_cycle, breaks_cycles, Broken, can't_be_read, Checked, CommitDoubted, Committed, CommitUnwritten, Contest, Contested, Counts, counts_refused, Disk, Doubt, Ending, Fetched, fetches_touched, Fetching, gets, Going, Idle, instruction, is_over_limit, Journal, Limit, Lost, no_counts, Over, ReadFailed, refused_pages, Settled, turn, Turning, Unwritten, Victim, Waits, with_grants, with_lowered, Word}
+pub use Rattle.desk.specs.Instruction.{asks, InFlight, attempts, breaks_cycle, breaks_cycles, Broken, can't_be_read, Checked, CommitDoubted, Committed, CommitUnwritten, Contest, Contested, Counts, counts_refused, Disk, Doubt, Ending, Fetched, fetches_touched, Fetching, gets, Going, Idle, instruction, is_over_limit, Journal, Limit, Lost, no_counts, Over, ReadFailed, refused_pages, Settled, turn, Turning, Unwritten, Victim, Waits, with_grants, with_lowered, DiskWord}
 pub use Rattle.desk.specs.Report.{event_lines, happening_lines, number_after}
 pub use Rattle.desk.specs.Run.{absent_segment, event_of, IsRunOf, Nothing, OpenBeforeEach, run, Step, step, Turned, turned}
 pub use Rattle.desk.specs.Seen.{commits_seen}
 pub use Rattle.desk.specs.declared.event.Event.{Event}
 pub use Rattle.desk.specs.declared.event.Event.TheVariants.{Begin, Checkpoint, Crash, Turn}
 pub use Rattle.flat_machine.specs.After.{after, start}
-pub use Rattle.flat_machine.specs.Agreement.{AgreeOn, all_of, DoesTheSame, line_in}
+pub use Rattle.flat_machine.specs.Agreement.{AgreeOn, all_of, DoesTheSame, flat_line}
 pub use Rattle.flat_machine.specs.Due.{touched_next, touched_within}
 pub use Rattle.flat_machine.specs.Row.{Check, Commit, On, Outcome, row}
 pub use Rattle.flat_machine.specs.Touched.{touched}
@@ -21,8 +21,8 @@ pub use Rattle.flat_machine.specs.declared.machine.Program.{Program}
 pub use Rattle.lines.specs.Access.{Grant, lets, nobody}
 pub use Rattle.lines.specs.Conflicts.{conflicts, Lines, page_of_line, pages_of, with_whole_pages}
 pub use Rattle.lines.specs.Directory.{byte_count, is_fine_page, Layout, page_count}
-pub use Rattle.lines.specs.FlatStore.{FlatStore, IsWhole}
-pub use Rattle.lines.specs.Lines.{line_count}
+pub use Rattle.lines.specs.FlatStore.{FlatStore, IsWholeStore}
+pub use Rattle.lines.specs.FlatLines.{line_count}
 pub use Rattle.lines.specs.Sets.{has, meets, size}
 pub use Rattle.lines.specs.Waits.{leads, shown_cycle, victim_of}
 pub use Rattle.store_format.specs.Stands.{Stands, stands}

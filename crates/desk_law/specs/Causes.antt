@@ -1,32 +1,32 @@
 -- Why turns and activations end.
 use Rattle.std.specs.Prelude.{◌≢◌, ◌≡◌, ℕ, ◌+◌, ◌<◌, ◌==◌, ◌⊎◌, map, Bool, true, false, IsTrue, List, [], ◌∷◌, ◌++◌, Some}
-use Rattle.desk_law.specs.Below.{after, Check, Checked, Commit, CommitDoubted, Committed, CommitUnwritten, conflicts_of, Counts, Desk, Disk, Doubt, Ending, Entry, FlatStore, Going, has, Idle, Journal, Limit, numbers, Outcome, Over, Plain, ReadFailed, row, size, touched_next, touched_within, turn, Turning, Unwritten, Victim, victim_of, Waits, Word}
+use Rattle.desk_law.specs.Below.{after, Check, Checked, Commit, CommitDoubted, Committed, CommitUnwritten, conflicts_of, Counts, Desk, Disk, Doubt, Ending, Active, FlatStore, Going, has, Idle, Journal, Limit, numbers, Outcome, Over, Plain, ReadFailed, row, size, touched_next, touched_within, turn, Turning, Unwritten, Victim, victim_of, Waits, DiskWord}
 use Rattle.desk_law.specs.Consistent.{IsAmong, IsConsistent}
 
 -- the row of an entry after so many rows more goes so at a state
-abbrev pub RowIs : FlatStore → Entry → (ran : ℕ) → Plain → Outcome → Type 0
+abbrev pub RowIs : FlatStore → Active → (ran : ℕ) → Plain → Outcome → Type 0
 RowIs store entry ran now outcome =
     (after entry.runs.program entry.runs.args store (entry.rows + ran) ≡ Some now) × (row entry.runs.program store.directory now ≡ outcome)
 
 -- how many lines an entry will have written after so many rows more and the next one
-abbrev pub lines_by : FlatStore → Entry → (ran : ℕ) → ℕ
-lines_by store entry ran =
+abbrev pub written_after : FlatStore → Active → (ran : ℕ) → ℕ
+written_after store entry ran =
     size
     ((touched_within entry.runs.program entry.runs.args store (entry.rows + ran)).writes
     ++ (touched_next entry.runs.program entry.runs.args store (entry.rows + ran)).writes)
 
 -- the entry after so many rows more, marked waiting
-abbrev pub waiting_after : Entry → (ran : ℕ) → Entry
+abbrev pub waiting_after : Active → (ran : ℕ) → Active
 waiting_after entry ran = record entry { rows = entry.rows + ran; waiting = true }
 
 -- the cause of an end, by the desk and the entry at the turn's begin and the desk at its end
-abbrev pub EndsForCause : Word → (limit : ℕ) → Desk → Entry → (later : Desk) → Counts → Ending → Type 0
+abbrev pub EndsForCause : DiskWord → (limit : ℕ) → Desk → Active → (later : Desk) → Counts → Ending → Type 0
 EndsForCause word limit desk entry later counts Idle = ⊥
 EndsForCause word limit desk entry later counts Limit = counts.ran ≡ limit
 EndsForCause word limit desk entry later counts (Checked code address) =
     (now : Plain) × RowIs desk.committed entry counts.ran now (Check code) × (address ≡ now.iar)
 EndsForCause word limit desk entry later counts (Journal lines most) =
-    (lines ≡ lines_by desk.committed entry counts.ran) × (most ≡ desk.most_lines) × (most < lines)
+    (lines ≡ written_after desk.committed entry counts.ran) × (most ≡ desk.most_lines) × (most < lines)
 EndsForCause word limit desk entry later counts Disk = word ≡ ReadFailed counts.pages
 EndsForCause word limit desk entry later counts Victim =
     (front : List (List ℕ)) × (cycle : List ℕ) × (counts.cycles ≡ front ++ cycle ∷ []) × (victim_of cycle ≡ entry.number)
@@ -41,7 +41,7 @@ EndsForCause word limit desk entry later counts CommitUnwritten = (word ≡ Unwr
 EndsForCause word limit desk entry later counts CommitDoubted = (word ≡ Doubt) × ((now : Plain) × RowIs desk.committed entry counts.ran now Commit)
 
 -- a turn is over, for its cause
-abbrev pub IsOverFor : Word → (limit : ℕ) → Desk → Entry → Turning → Type 0
+abbrev pub IsOverFor : DiskWord → (limit : ℕ) → Desk → Active → Turning → Type 0
 IsOverFor word limit desk entry (Going later counts) = ⊥
 IsOverFor word limit desk entry (Over later counts ending) = EndsForCause word limit desk entry later counts ending
 
@@ -50,7 +50,7 @@ IsOverFor word limit desk entry (Over later counts ending) = EndsForCause word l
 -- cycle recorded; and who waits is marked, and conflicts with those holders, who are some.
 abbrev pub TurnsEndForCause : Type 0
 TurnsEndForCause =
-    (word : Word) (limit : ℕ) (desk : Desk) (entry : Entry) → IsConsistent desk → IsAmong desk.active entry
+    (word : DiskWord) (limit : ℕ) (desk : Desk) (entry : Active) → IsConsistent desk → IsAmong desk.active entry
     → IsOverFor word limit desk entry (turn word entry.number limit desk)
 
 -- the desk and the counts of a turn, and whether it is over by an end of its own activation
@@ -80,5 +80,5 @@ IsAccounted number turning other =
 -- ended by its check, the limit on lines, a page that can't be read, or its commit.
 abbrev pub EndsHaveCauses : Type 0
 EndsHaveCauses =
-    (word : Word) (number limit : ℕ) (desk : Desk) (entry : Entry) → IsAmong desk.active entry
+    (word : DiskWord) (number limit : ℕ) (desk : Desk) (entry : Active) → IsAmong desk.active entry
     → IsAccounted number (turn word number limit desk) entry.number

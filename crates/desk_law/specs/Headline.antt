@@ -1,6 +1,6 @@
 -- What a crash leaves of a run from an opening, in the words of the programs run one after another.
 use Rattle.std.specs.Prelude.{◌≡◌, ℕ, ◌+◌, ◌≤◌, ◌%◌, ◌^◌, List, [], ◌∷◌, ◌++◌, length, take, Some}
-use Rattle.desk_law.specs.Below.{begun, commits_seen, Doubt, Event, fine_step, FlatStore, IsRunOf, opened, Program, run, standing_of, Stands, stands, Word}
+use Rattle.desk_law.specs.Below.{begun, commits_seen, Doubt, Event, fine_step, FlatStore, IsRunOf, opened, Program, run, standing_of, Stands, stands, DiskWord}
 use Rattle.flat_machine.specs.Serial.{Activation, serial}
 use Rattle.desk_law.specs.Left.{IsLeft}
 
@@ -23,7 +23,7 @@ pub record IsPrefix (activations : List Activation) (number : ℕ) (store : Flat
 -- what a crash left of a run from an opening is that
 abbrev pub LeftIsPrefix : Type 0
 LeftIsPrefix =
-    (programs : List Program) (number frames most most_lines : ℕ) (store : FlatStore) (events : List Event) (taken : List (Event × Word)) (rest : List Event) (text printed image seen : List ℕ)
+    (programs : List Program) (number frames most most_lines : ℕ) (store : FlatStore) (events : List Event) (taken : List (Event × DiskWord)) (rest : List Event) (text printed image seen : List ℕ)
     → IsRunOf programs events (opened frames most most_lines store) taken rest
     → IsLeft programs number (opened frames most most_lines store) taken text printed image seen
     → IsPrefix (begun programs events) number store (run programs taken (opened frames most most_lines store)).order printed image seen
@@ -31,7 +31,7 @@ LeftIsPrefix =
 -- where the last event ended in doubt, what stands once it goes well is the whole order
 abbrev pub DoubtIsWhole : Type 0
 DoubtIsWhole =
-    (programs : List Program) (number frames most most_lines : ℕ) (store : FlatStore) (events : List Event) (front : List (Event × Word)) (event : Event) (rest : List Event)
+    (programs : List Program) (number frames most most_lines : ℕ) (store : FlatStore) (events : List Event) (front : List (Event × DiskWord)) (event : Event) (rest : List Event)
     → IsRunOf programs events (opened frames most most_lines store) (front ++ (event, Doubt) ∷ []) rest
     → (fine_step programs event (run programs front (opened frames most most_lines store))).order ≡ (run programs (front ++ (event, Doubt) ∷ []) (opened frames most most_lines store)).order
     → (left : FlatStore) × (serial (begun programs events) (run programs (front ++ (event, Doubt) ∷ []) (opened frames most most_lines store)).order store ≡ Some left)

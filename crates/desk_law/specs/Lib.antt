@@ -1,7 +1,7 @@
 pub mod Below
 pub mod Consistent
 pub mod Orderly
-pub mod Laws
+pub mod DeskLaws
 pub mod Changes
 pub mod Current
 pub mod CurrentLaws

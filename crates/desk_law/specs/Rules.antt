@@ -1,11 +1,11 @@
 -- The rules of locks, each taken away from the desk that asks where it is refused.
 use Rattle.std.specs.Prelude.{ℕ, ◌==◌, ◌&&◌, ◌||◌, not, Bool, true, List, ◌++◌, map, filter, slice_index_or}
-use Rattle.desk_law.specs.Below.{Attempt, Committed, conflicts, Desk, due_to, Entry, Going, Lines, meets, nobody, Over, page_of_line, pages_of, requested, Turning, wanted, with_grants, with_whole_pages}
+use Rattle.desk_law.specs.Below.{InFlight, Committed, conflicts, Desk, due_to, Active, Going, Lines, meets, nobody, Over, page_of_line, pages_of, requested, Turning, wanted, with_grants, with_whole_pages}
 use Rattle.desk_law.specs.UnderWay.{touched_of}
 use Rattle.desk_law.specs.Asking.{Asking, asks_refused, asks_refused_by, RunsAreIsolatedBy, RunsStayConsistentBy}
 
 -- whom an entry conflicts with, by what is asked, what others hold, and when these conflict; `conflicts_of` is that of `requested`, `due_to` and `conflicts`
-abbrev pub conflicting : (asked holds : Desk → Entry → Lines) → (Lines → Lines → Bool) → Desk → Entry → List ℕ
+abbrev pub conflicting : (asked holds : Desk → Active → Lines) → (Lines → Lines → Bool) → Desk → Active → List ℕ
 conflicting asked holds conflict desk entry =
     map (λ other. other.number) (filter (λ other. not (other.number == entry.number) && conflict (asked desk entry) (holds desk other)) desk.active)
 
@@ -25,7 +25,7 @@ without_write_meets_read =
     asks_refused_by (conflicting (λ desk. requested desk.committed) (λ desk. due_to desk.committed) (λ asked holds. meets asked.writes holds.writes || meets asked.reads holds.writes))
 
 -- the locks of an entry, those to read in pages alone of which it is the owner
-abbrev pub held_as_owner : Desk → Entry → Lines
+abbrev pub held_as_owner : Desk → Active → Lines
 held_as_owner desk entry =
     record {
       reads = filter (λ line. (slice_index_or desk.authority (page_of_line line) nobody).owner == entry.number) (due_to desk.committed entry).reads;
@@ -37,7 +37,7 @@ abbrev pub without_kept_reads : Asking
 without_kept_reads = asks_refused_by (conflicting (λ desk. requested desk.committed) held_as_owner conflicts)
 
 -- the pages that a row that went on has written into are its entry's as it stored
-abbrev pub bits_on : Attempt → Turning → Turning
+abbrev pub bits_on : InFlight → Turning → Turning
 bits_on attempt (Going desk counts) = Going (with_grants attempt (pages_of attempt.lines.writes) desk) counts
 bits_on attempt (Over desk counts ending) = Over desk counts ending
 

@@ -1,4 +1,4 @@
-ghost use Rattle.desk_law.specs.Laws.{FineRowsAskForTheirLines, WriteBitsHoldPages, BrokenCyclesWere, ContestedCyclesClose, IdleWhereInactive, PermittedIsFree, RunsStayConsistent, SomebodyCanGoOn, StaysConsistent, UnrefusedAsksNothing};
+ghost use Rattle.desk_law.specs.DeskLaws.{FineRowsAskForTheirLines, WriteBitsHoldPages, BrokenCyclesWere, ContestedCyclesClose, IdleWhereInactive, PermittedIsFree, RunsStayConsistent, SomebodyCanGoOn, StaysConsistent, UnrefusedAsksNothing};
 
 /// A desk that is consistent is so after every event with every word (docs/MODEL.md). It calls nothing.
 pub fn desks_stay_consistent()

@@ -18,7 +18,7 @@ pub use Rattle.job_text.specs.declared.job.Job.{Job}
 pub use Rattle.lines.specs.FlatStore.{FlatStore}
 pub use Rattle.listing.proofs.PutsLemmas.{puts_on, puts_same, puts_stop, times_on}
 pub use Rattle.outside.specs.Causes.{Rose, CountsFault}
-pub use Rattle.outside.specs.MemoryDisk.{disk_calls, disk_faults, disk_first, disk_held, disk_images, disk_moment, disk_writes, Answers, FoundNoMemory, IsRecorded, WasTried, disk_origin, disk_plan, is_disk_starved}
+pub use Rattle.outside.specs.MemoryDisk.{disk_calls, disk_faults, disk_first, disk_held, disk_images, disk_moment, disk_writes, FailsAsDue, FoundNoMemory, IsRecorded, WasTried, disk_origin, disk_plan, is_disk_starved}
 pub use Rattle.outside.specs.Moments.{Elapses}
 pub use Rattle.outside.specs.Record.{images_at, is_write}
 pub use Rattle.outside.specs.Runs.{FewerLater, held_of}
@@ -26,14 +26,14 @@ pub use Rattle.outside.specs.declared.world.Outside.{Ghosts}
 pub use Rattle.store_format.specs.Header.{HasRanges, Header, fields, first_fault, fresh, header_of, most_lines, total}
 pub use Rattle.store_format.specs.Stands.{NotAStore, Standing, Stands, chosen, standing_by, standing_if}
 unfoldable pub use Rattle.store_format.specs.Stands.{stands}
-pub use Rattle.drills.specs.Drill.{IsLeft, IsStop, IsStoppedRun, IsTold, all_fine, fine_order}
-pub use Rattle.drills.specs.Drilled.{AreStops, DrilledBy, DrilledTo, EndsBefore, IsPair, IsPast, IsTried, PutsFirst, PutsStops, PutsWhole, broken, last_line, pair_lines, stop_line, stop_lines, try_flat, try_order, well, IsFound}
+pub use Rattle.drills.specs.Drill.{IsRunLeft, IsStop, IsStoppedRun, IsTold, all_fine, fine_order}
+pub use Rattle.drills.specs.Drilled.{AreStops, DrilledBy, DrilledTo, EndsBefore, IsPair, IsPast, IsTried, PutsFirst, PutsStops, PutsWhole, broken, last_line, pair_lines, stop_line, stop_lines, try_flat, try_order, well, IsStopFound}
 pub use Rattle.drills.specs.declared.stops.Stop.{Stop}
-pub use Rattle.drills.specs.Stopping.{IsStopping, KeepsTo, WereStopped, WereWritten, after_writes, number_of}
+pub use Rattle.drills.specs.Stopping.{IsStopping, KeepsTo, WereStopped, WereWritten, after_writes, stop_number}
 pub use Rattle.outside.specs.Bytes.{AreTold, CountsWrite, Prints, written}
 pub use Rattle.outside.specs.MemoryScreen.{screen_printed}
 pub use Rattle.outside.specs.Origin.{Origin}
-pub use Rattle.outside.specs.Plan.{Plan, after_call, after_write, fate_of, held_by_fate, is_failed, is_failing, is_last, outcome_of, stops}
+pub use Rattle.outside.specs.Plan.{DiskPlan, after_call, after_write, fate_of, held_by_fate, is_failed, is_failing, is_last, outcome_of, stops}
 pub use Rattle.outside.specs.declared.failed.Failed.{Failed}
 pub use Rattle.outside.specs.declared.memory_disk.MemoryDisk.{MemoryDisk}
 pub use Rattle.std.proofs.lemmas.Bool.{cases_Bool, cases_lt, eqb-false, eqb-true, or_cases}

@@ -1,13 +1,13 @@
 -- What a drill's stops come to, and what is put of them.
 use Rattle.drills.proofs.Common.{◌≡◌, inl, inr, ℕ, zero, suc, ◌+◌, ◌*◌, ◌%◌, ◌<◌, ◌≤◌, Bool, true, false, List, [], ◌∷◌, ◌++◌, length, refl, sym, ◌∙◌, ap, subst, rules, arith, append_assoc, append-nil, length-append, ◌^◌, min, get_or, All, Result, Ok, Vec, FlatStore, HasRanges, fresh, Standing, Stands, stands, Job, Ghosts, FewerLater, puts_on, puts_same, times_on, Status, Stop, Committed, length-map, IsStop, Rose, Given, DrilledBy, DrilledTo, IsPair, IsPast, IsTried, PutsFirst, PutsStops, PutsWhole, last_line, pair_lines, stop_lines, try_flat, try_order, well, IsStanding, cases_lt, Failed}
 use Rattle.std.specs.declared.alloc.Global.{Global}
-use Rattle.lines.specs.Legal.{IsInRange, IsLegal}
+use Rattle.lines.specs.Legal.{IsInRange, AreSegmentsLegal}
 use Rattle.store_format.proofs.Fresh.{fresh_stands}
-use Rattle.listing.specs.Puts.{Puts, PutsTimes}
-use Rattle.drills.specs.declared.drill.Pair.{Pair}
+use Rattle.listing.specs.BytesPut.{PrintsBytes, PutsTimes}
+use Rattle.drills.specs.declared.drill.StopPair.{StopPair}
 use Rattle.job_text.specs.Grammar.{content_of, job_of}
 use Rattle.call_status.specs.Statuses.{IsOfReading}
-use Rattle.call_status.specs.SourceText.{IsWhole}
+use Rattle.call_status.specs.SourceText.{IsWholeText}
 use Rattle.store_calls.specs.TryStore.{try_layout}
 use Rattle.call_status.specs.declared.status.Status.TheVariants as status
 
@@ -21,7 +21,7 @@ try-in-range zero d below = (omega arith, omega arith, omega arith, omega arith)
 try-in-range (suc zero) d below = (omega arith, omega arith, omega arith, omega arith)
 try-in-range (suc (suc k)) d below = absurd (omega arith)
 
-try-legal : IsLegal try_layout.directory.segments
+try-legal : AreSegmentsLegal try_layout.directory.segments
 try-legal = record { some = omega arith; few = omega arith; in_range = try-in-range; ascending = search rules; pages = omega arith }
 
 try-ranges : HasRanges try_layout
@@ -57,7 +57,7 @@ module _ (job : Job) (write : ℕ) (outcome : List ℕ) (stop : Stop) (is : IsTr
   stop-all un = is.all un ∙ sym (length-map stop.order.items (λ (commit : Committed). (commit.activation, commit.steps))) ∙ ap (λ (order : List (ℕ × ℕ)). length order) (is.whole un)
 
 -- lines of one write more
-pub stop_lines-append : (write : ℕ) (pairs : List Pair) (pair : Pair) → stop_lines write (pairs ++ pair ∷ []) ≡ stop_lines write pairs ++ pair_lines (write + length pairs) pair
+pub stop_lines-append : (write : ℕ) (pairs : List StopPair) (pair : StopPair) → stop_lines write (pairs ++ pair ∷ []) ≡ stop_lines write pairs ++ pair_lines (write + length pairs) pair
 stop_lines-append write [] pair = append-nil (pair_lines write pair) ∙ ap (λ (n : ℕ). pair_lines n pair) (let same : write ≡ write + 0 = omega arith in same)
 stop_lines-append write (first ∷ pairs) pair =
     ap (λ (behind : List ℕ). pair_lines write first ++ behind) (stop_lines-append (write + 1) pairs pair ∙ ap (λ (n : ℕ). stop_lines (write + 1) pairs ++ pair_lines n pair) (let same : write + 1 + length pairs ≡ write + length (first ∷ pairs) = omega arith in same))
@@ -72,10 +72,10 @@ module _ {W : Type 0} (G : Ghosts W) (job : Job) where
   none-put w = (record { pairs = []; stops = record { few = omega arith; each = λ k d below. absurd (omega (arith, below)) }; puts = search rules; times = λ told. omega arith }, refl)
 
   -- these are pairs of the writes from one on
-  abbrev AreFrom : (write : ℕ) → List Pair → Type 0
-  AreFrom write pairs = (k : ℕ) (d : Pair) → k < length pairs → IsPair job (k + write) (get_or pairs k d)
+  abbrev AreFrom : (write : ℕ) → List StopPair → Type 0
+  AreFrom write pairs = (k : ℕ) (d : StopPair) → k < length pairs → IsPair job (k + write) (get_or pairs k d)
 
-  one-pair : (write : ℕ) (pairs : List Pair) (pair : Pair) → AreFrom write pairs → IsPair job (length pairs + write) pair → AreFrom write (pairs ++ pair ∷ [])
+  one-pair : (write : ℕ) (pairs : List StopPair) (pair : StopPair) → AreFrom write pairs → IsPair job (length pairs + write) pair → AreFrom write (pairs ++ pair ∷ [])
   one-pair write [] pair each this zero d below = this
   one-pair write [] pair each this (suc k) d below = absurd (omega arith)
   one-pair write (first ∷ pairs) pair each this zero d below = each zero d (omega arith)
@@ -87,7 +87,7 @@ module _ {W : Type 0} (G : Ghosts W) (job : Job) where
 
   module _ (fewer_later : FewerLater G) where
     -- one pair more, or a part of its lines
-    pub put-more : (before mid after : W) (count : ℕ) (pair : Pair) (result : Result (Unit {0}) Failed) → count < 256 → IsPair job (count + 1) pair → Puts G (pair_lines (count + 1) pair) mid after result → PutsTimes G 2 mid after result → IsPut before mid well count → IsPut before after result (count + 1)
+    pub put-more : (before mid after : W) (count : ℕ) (pair : StopPair) (result : Result (Unit {0}) Failed) → count < 256 → IsPair job (count + 1) pair → PrintsBytes G (pair_lines (count + 1) pair) mid after result → PutsTimes G 2 mid after result → IsPut before mid well count → IsPut before after result (count + 1)
     put-more before mid after count pair result few this puts times (put, many) =
         let more : length (put.pairs ++ pair ∷ []) ≡ length put.pairs + 1 = length-append put.pairs (pair ∷ []) in (
           record {
@@ -95,7 +95,7 @@ module _ {W : Type 0} (G : Ghosts W) (job : Job) where
             stops = record { few = omega (arith, more, many, few); each = one-pair 1 put.pairs pair put.stops.each (subst (λ (n : ℕ). IsPair job (n + 1) pair) (sym many) this) };
             puts = puts_same G before after (stop_lines 1 put.pairs ++ pair_lines (1 + length put.pairs) pair) (stop_lines 1 (put.pairs ++ pair ∷ [])) result (sym (stop_lines-append 1 put.pairs pair))
                 (puts_on G fewer_later before mid after (stop_lines 1 put.pairs) (pair_lines (1 + length put.pairs) pair) tt result put.puts
-                (subst (λ (n : ℕ). Puts G (pair_lines n pair) mid after result) (let same : count + 1 ≡ 1 + length put.pairs = omega (arith, many) in same) puts));
+                (subst (λ (n : ℕ). PrintsBytes G (pair_lines n pair) mid after result) (let same : count + 1 ≡ 1 + length put.pairs = omega (arith, many) in same) puts));
             times = subst (λ (n : ℕ). PutsTimes G n before after result) (let same : 2 * length put.pairs + 2 ≡ 2 * length (put.pairs ++ pair ∷ []) = omega (arith, more) in same)
                 (times_on G before mid after (2 * length put.pairs) 2 (stop_lines 1 put.pairs) tt result put.puts put.times times);
           },
@@ -103,7 +103,7 @@ module _ {W : Type 0} (G : Ghosts W) (job : Job) where
         )
 
     -- the last line
-    pub whole-put : (before mid after : W) (count number : ℕ) (result : Result (Unit {0}) Failed) → PutsStops G job before mid (Ok count) → number ≡ length (try_order job) → Puts G (last_line count number) mid after result → PutsTimes G 1 mid after result
+    pub whole-put : (before mid after : W) (count number : ℕ) (result : Result (Unit {0}) Failed) → PutsStops G job before mid (Ok count) → number ≡ length (try_order job) → PrintsBytes G (last_line count number) mid after result → PutsTimes G 1 mid after result
         → PutsWhole G job before after result
     whole-put before mid after count number result (put, many, enough, past) is puts times = record {
       pairs = put.pairs;
@@ -113,7 +113,7 @@ module _ {W : Type 0} (G : Ghosts W) (job : Job) where
       enough = subst (λ (n : ℕ). min 256 (2 * n) ≤ length put.pairs) (sym is) (omega (arith, enough, many));
       all = λ below. subst (λ (n : ℕ). IsPast job (n + 1)) (sym many) (past (omega (arith, below, many)));
       puts = puts_on G fewer_later before mid after (stop_lines 1 put.pairs) (last_line (length put.pairs) number) tt result put.puts
-          (subst (λ (n : ℕ). Puts G (last_line n number) mid after result) (sym many) puts);
+          (subst (λ (n : ℕ). PrintsBytes G (last_line n number) mid after result) (sym many) puts);
       times = times_on G before mid after (2 * length put.pairs) 1 (stop_lines 1 put.pairs) tt result put.puts put.times times;
     }
 
@@ -137,7 +137,7 @@ module _ {W : Type 0} (G : Ghosts W) (job : Job) (before after : W) where
   drill-same _ did is = absurd (cc)
 
   -- of a text that means the job
-  pub drilled-text : (given : Given) (text : List ℕ) (status : Status) → IsWhole given.left given.left_now text → job_of text ≡ Ok (content_of job) → DrilledTo G job before after status → DrilledBy G given before after status
+  pub drilled-text : (given : Given) (text : List ℕ) (status : Status) → IsWholeText given.left given.left_now text → job_of text ≡ Ok (content_of job) → DrilledTo G job before after status → DrilledBy G given before after status
   drilled-text given text status.Done whole means did = record { text = text; whole = whole; job = job; means = means; did = did }
   drilled-text given text status.PutFault whole means did = record { text = text; whole = whole; job = job; means = means; did = did }
   drilled-text given text status.NoMemory whole means did = inr (record { text = text; whole = whole; job = job; means = means; did = did })

@@ -1,6 +1,6 @@
 -- What a run leaves on a disk that stops.
 use Rattle.desk_law.proofs.HeadlineLemmas.{start_is_prefix}
-use Rattle.drills.proofs.Common.{◌≡◌, ℕ, ◌+◌, ◌*◌, ◌<◌, ◌≤◌, inl, inr, Bool, true, false, List, [], ◌∷◌, ◌++◌, length, map, take, rules, cond, refl, sym, ◌∙◌, ap, subst, arith, append-nil, append_assoc, Option, Some, None, ◌↔◌, Result, Ok, IsSome, unwrap_or, count_by, not, length-map, length-append, length-filter, sum_by-append, Ghosts, Rose, Elapses, FewerLater, held_of, disk_faults, disk_first, disk_held, disk_images, disk_moment, disk_writes, FlatStore, Program, header_of, most_lines, stands, Event, Committed, order_told, commits_seen, Job, Status, Stop, IsLeft, IsStop, IsStoppedRun, IsTold, all_fine, fine_order, ByOpening, DidBy, FoundNoStore, JobHasRun, HasRunFrom, HappenedTo, StoodForNone, TellsStore, Untouched, job_desk, names_of, call, StandsAt, ⊎_elim, cases_Bool, flat_map, AreTold, Prints, screen_printed, MemoryDisk, disk_origin, disk_plan, Origin, outcome_of, put_by, WereStopped, WereWritten, number_of}
+use Rattle.drills.proofs.Common.{◌≡◌, ℕ, ◌+◌, ◌*◌, ◌<◌, ◌≤◌, inl, inr, Bool, true, false, List, [], ◌∷◌, ◌++◌, length, map, take, rules, cond, refl, sym, ◌∙◌, ap, subst, arith, append-nil, append_assoc, Option, Some, None, ◌↔◌, Result, Ok, IsSome, unwrap_or, count_by, not, length-map, length-append, length-filter, sum_by-append, Ghosts, Rose, Elapses, FewerLater, held_of, disk_faults, disk_first, disk_held, disk_images, disk_moment, disk_writes, FlatStore, Program, header_of, most_lines, stands, Event, Committed, order_told, commits_seen, Job, Status, Stop, IsRunLeft, IsStop, IsStoppedRun, IsTold, all_fine, fine_order, ByOpening, DidBy, FoundNoStore, JobHasRun, HasRunFrom, HappenedTo, StoodForNone, TellsStore, Untouched, job_desk, names_of, call, StandsAt, ⊎_elim, cases_Bool, flat_map, AreTold, Prints, screen_printed, MemoryDisk, disk_origin, disk_plan, Origin, outcome_of, put_by, WereStopped, WereWritten, stop_number}
 use Rattle.std.specs.Option.{option_and_then}
 use Rattle.outside.specs.declared.failed.Failed.{Failed as PutFailed}
 use Rattle.outside.specs.declared.memory_screen.MemoryScreen.{MemoryScreen}
@@ -8,9 +8,9 @@ use Rattle.flat_machine.specs.declared.machine.Plain.{Plain}
 use Rattle.flat_machine.specs.Serial.{Activation, committing, serial}
 use Rattle.desk.specs.Desk.{Desk, opened}
 use Rattle.desk.specs.Commits.{IsSerial, begun, is_commit, line_before, serial_lines}
-use Rattle.desk.specs.Instruction.{Word, Fine}
+use Rattle.desk.specs.Instruction.{DiskWord, Fine}
 use Rattle.desk.specs.Kept.{WritesMore}
-use Rattle.desk.specs.Lines.{Line, Open, line_text}
+use Rattle.desk.specs.ReportLines.{ReportLine, Open, line_text}
 use Rattle.desk.specs.Report.{closing_lines, event_lines, report}
 use Rattle.desk.specs.Run.{run, faulted, is_fine}
 use Rattle.desk_law.specs.Headline.{IsPrefix}
@@ -20,7 +20,7 @@ use Rattle.desk_law.proofs.StepLemmas.{AreNames, run_plain}
 use Rattle.job_calls.specs.declared.ended.Ended.{Ended}
 use Rattle.schedule_replay.proofs.PutsLemmas.{PrintedNow}
 use Rattle.schedule_replay.proofs.ReportLemmas.{no_closing}
-use Rattle.supervisor.specs.declared.session.SessionState.{SessionState}
+use Rattle.session.specs.declared.session.SessionState.{SessionState}
 use Rattle.call_status.specs.declared.status.Status.TheVariants as status
 
 -- a crash now may leave what is held
@@ -33,14 +33,14 @@ by-opening None opened refused did = refused did
 by-opening (Some session) opened refused did = opened did
 
 -- words of which none isn't fine
-one-more : (event : Event × Word) (taken : List (Event × Word)) → faulted (event ∷ taken) ≡ faulted (event ∷ []) + faulted taken
-one-more event taken = sum_by-append (λ (event : Event × Word). cond (not (is_fine event.1)) 1 0) (event ∷ []) taken
+one-more : (event : Event × DiskWord) (taken : List (Event × DiskWord)) → faulted (event ∷ taken) ≡ faulted (event ∷ []) + faulted taken
+one-more event taken = sum_by-append (λ (event : Event × DiskWord). cond (not (is_fine event.1)) 1 0) (event ∷ []) taken
 
-fine-taken : (taken : List (Event × Word)) → faulted taken ≡ 0 → taken ≡ all_fine (map (λ event. event.0) taken)
+fine-taken : (taken : List (Event × DiskWord)) → faulted taken ≡ 0 → taken ≡ all_fine (map (λ event. event.0) taken)
 fine-taken [] none = refl
 fine-taken ((event, Fine) ∷ taken) none =
     let more = one-more (event, Fine) taken in
-    ap (λ (behind : List (Event × Word)). (event, Fine) ∷ behind) (fine-taken taken (omega (arith, none, more)))
+    ap (λ (behind : List (Event × DiskWord)). (event, Fine) ∷ behind) (fine-taken taken (omega (arith, none, more)))
 fine-taken ((event, word) ∷ taken) none = let more = one-more (event, word) taken in absurd (omega (arith, none, more))
 
 -- commits that run one after another have a line each
@@ -56,12 +56,12 @@ lines-each activations number (commit ∷ commits) store left is =
     by (Some state) is later = let rest = later state left is in omega (arith, rest)
 
 -- at most one commit has no line, and while the desk is open none
-lines-of-commits : (activations : List Activation) (number : ℕ) (store : FlatStore) (order : List (ℕ × ℕ)) (lines : List Line) (committed : FlatStore) (closed : Bool) → IsSerial activations number store order lines committed closed
+lines-of-commits : (activations : List Activation) (number : ℕ) (store : FlatStore) (order : List (ℕ × ℕ)) (lines : List ReportLine) (committed : FlatStore) (closed : Bool) → IsSerial activations number store order lines committed closed
     → (length order ≤ count_by is_commit lines + 1) × (closed ≡ false → length order ≡ count_by is_commit lines)
 lines-of-commits activations number store order lines committed closed is =
     let all : length order ≡ length is.done + length is.doubt = ap (λ (these : List (ℕ × ℕ)). length these) is.order_is ∙ length-append is.done is.doubt in
     let each : length (serial_lines activations number is.done store) ≡ length is.done = lines-each activations number is.done store committed is.leaves in
-    let counted : count_by is_commit lines ≡ length (serial_lines activations number is.done store) = sym (length-filter is_commit lines) ∙ ap (λ (these : List Line). length these) is.lines_are in
+    let counted : count_by is_commit lines ≡ length (serial_lines activations number is.done store) = sym (length-filter is_commit lines) ∙ ap (λ (these : List ReportLine). length these) is.lines_are in
     (omega (arith, all, each, counted, is.one_doubt), λ still. let none : length is.doubt ≡ 0 = ap (λ (these : List (ℕ × ℕ)). length these) (is.none_open still) in omega (arith, all, each, counted, none))
 
 -- a report that didn't fail was put whole
@@ -103,7 +103,7 @@ module _ {W : Type 0} (G : Ghosts W) (job : Job) (number : ℕ) (store : FlatSto
       let same : count_by is_commit ran.ran.lines ≡ count_by is_commit lines = ap (count_by is_commit) (ran.ran.lines_are ∙ ap (λ (names : List (List ℕ)). event_lines names job.programs.items number ran.ran.taken start) ran.named) in
       let all : commits_seen seen ≡ count_by is_commit lines =
       elim (cases_Bool end.closed) [
-        | inl shut ↦ let none = ap (λ (these : List Line). commits_seen (flat_map line_text these)) (no_closing number ran.ran.rest end shut) in omega (arith, whole, split, none)
+        | inl shut ↦ let none = ap (λ (these : List ReportLine). commits_seen (flat_map line_text these)) (no_closing number ran.ran.rest end shut) in omega (arith, whole, split, none)
         | inr on ↦ let each = still (ap (λ (desk : Desk). desk.closed) ran.ran.end_is ∙ on) in omega (arith, whole, split, few, each, same)
       ] in
       let order_is = ran.ran.order_is ∙ ap (λ (desk : Desk). desk.order) ran.ran.end_is in (
@@ -119,7 +119,7 @@ module _ {W : Type 0} (G : Ghosts W) (job : Job) (number : ℕ) (store : FlatSto
       let all : map (λ event. event.0) taken ≡ job.events.items =
       sym (append-nil (map (λ event. event.0) taken)) ∙ ap (λ (rest : List Event). map (λ event. event.0) taken ++ rest) (sym (ran.all done)) ∙ ran.ran.is_run.prefix in
       let are : taken ≡ all_fine job.events.items = fine-taken taken none ∙ ap all_fine all in
-      ran.ran.order_is ∙ ap (λ (desk : Desk). desk.order) ran.ran.end_is ∙ ap (λ (events : List (Event × Word)). (run job.programs.items events (job_desk job (held_of G before) store)).order) are
+      ran.ran.order_is ∙ ap (λ (desk : Desk). desk.order) ran.ran.end_is ∙ ap (λ (events : List (Event × DiskWord)). (run job.programs.items events (job_desk job (held_of G before) store)).order) are
 
   -- and two writes were made for each commit
   writes-made : (status : Status) → JobHasRun G job number store (call before after order status) session → status ≡ Status.Done → WritesMore (G.writes before) (G.writes after) (2 * length order)
@@ -128,7 +128,7 @@ module _ {W : Type 0} (G : Ghosts W) (job : Job) (number : ℕ) (store : FlatSto
       subst (λ (n : ℕ). WritesMore (G.writes before) (G.writes after) (2 * n)) (sym each) ran.ran.to.writes
 
   -- what ran
-  left-by : (status : Status) → StandsAt G before number store → Elapses G.moment G.left_since before after → AreNames (names_of job) → FewerLater G → PrintedNow G → HeldNow G → JobHasRun G job number store (call before after order status) session → IsLeft G job number store (call before after order status)
+  left-by : (status : Status) → StandsAt G before number store → Elapses G.moment G.left_since before after → AreNames (names_of job) → FewerLater G → PrintedNow G → HeldNow G → JobHasRun G job number store (call before after order status) session → IsRunLeft G job number store (call before after order status)
   left-by status standing time are fewer_later printed_now held_now ran = record {
     first = first-left status standing time fewer_later printed_now held_now ran;
     ran = λ image seen holds nothing prints unfailed.
@@ -144,7 +144,7 @@ module _ {W : Type 0} (G : Ghosts W) (job : Job) (number : ℕ) (store : FlatSto
       ap (λ (told : Option (List ℕ)). unwrap_or told []) (let one : Some seen ≡ Some [] = sym prints ∙ untouched.asks.calls.quiet.same ∙ nothing in one)
 
   -- a disk on which nothing ran holds what it held
-  untouched-left : (status : Status) → (status ≡ Status.Done → ⊥) → Untouched G (call before after order status) → StandsAt G before number store → IsLeft G job number store (call before after order status)
+  untouched-left : (status : Status) → (status ≡ Status.Done → ⊥) → Untouched G (call before after order status) → StandsAt G before number store → IsRunLeft G job number store (call before after order status)
   untouched-left status undone untouched standing = record {
     first = λ image seen holds nothing prints.
         let kept : Some image ≡ G.held before = sym holds ∙ untouched.asks.held in
@@ -165,7 +165,7 @@ module _ {W : Type 0} (G : Ghosts W) (job : Job) (number : ℕ) (store : FlatSto
   told standing = record { honest = standing.honest; told = standing.told; stood = standing.stood }
 
   -- whatever happened
-  did-left : (status : Status) → Elapses G.moment G.left_since before after → AreNames (names_of job) → FewerLater G → PrintedNow G → HeldNow G → StandsAt G before number store → DidBy G (HasRunFrom G job (call before after order status) session) (call before after order status) session status → IsLeft G job number store (call before after order status)
+  did-left : (status : Status) → Elapses G.moment G.left_since before after → AreNames (names_of job) → FewerLater G → PrintedNow G → HeldNow G → StandsAt G before number store → DidBy G (HasRunFrom G job (call before after order status) session) (call before after order status) session status → IsRunLeft G job number store (call before after order status)
   did-left status.Done time are fewer_later printed_now held_now standing ran = left-by status.Done standing time are fewer_later printed_now held_now (ran number store (told standing))
   did-left status.PutFault time are fewer_later printed_now held_now standing ran = left-by status.PutFault standing time are fewer_later printed_now held_now (ran number store (told standing))
   did-left status.DiskFault time are fewer_later printed_now held_now standing did =
@@ -174,11 +174,11 @@ module _ {W : Type 0} (G : Ghosts W) (job : Job) (number : ℕ) (store : FlatSto
       (λ (untouched : Untouched G (call before after order status.DiskFault)). untouched-left status.DiskFault (λ is. cc) untouched standing) did
   did-left (status.Store offset) time are fewer_later printed_now held_now standing did =
       by-opening session
-      (λ (none : StoodForNone G before). let that : IsLeft G job number store (call before after order (status.Store offset)) = absurd (none number store (told standing)) in that)
+      (λ (none : StoodForNone G before). let that : IsRunLeft G job number store (call before after order (status.Store offset)) = absurd (none number store (told standing)) in that)
       (λ (found : FoundNoStore G (call before after order (status.Store offset)) offset). untouched-left (status.Store offset) (λ is. cc) found.refused.untouched standing) did
   did-left other time are fewer_later printed_now held_now standing refused = untouched-left other (λ is. cc) refused.untouched standing
 
-  pub happened-left : (status : Status) → AreNames (names_of job) → FewerLater G → PrintedNow G → HeldNow G → StandsAt G before number store → HappenedTo G job (call before after order status) session → IsLeft G job number store (call before after order status)
+  pub happened-left : (status : Status) → AreNames (names_of job) → FewerLater G → PrintedNow G → HeldNow G → StandsAt G before number store → HappenedTo G job (call before after order status) session → IsRunLeft G job number store (call before after order status)
   happened-left status are fewer_later printed_now held_now standing happened = did-left status happened.time are fewer_later printed_now held_now standing happened.by_status
 
 -- the same of a job that says as much
@@ -189,7 +189,7 @@ record Parts : Type 0 where
   events : List Event
 
 pub left-same : {W : Type 0} (G : Ghosts W) (copy job : Job) (number : ℕ) (store : FlatStore) (before after : W) (order : List (ℕ × ℕ)) (status : Status) → copy.frames ≡ job.frames → names_of copy ≡ names_of job → copy.programs.items ≡ job.programs.items → copy.events.items ≡ job.events.items
-    → IsLeft G copy number store (call before after order status) → IsLeft G job number store (call before after order status)
+    → IsRunLeft G copy number store (call before after order status) → IsRunLeft G job number store (call before after order status)
 left-same G copy job number store before after order status frames names programs events left =
     let of_job : Job → Parts = λ job. record { frames = job.frames; names = names_of job; programs = job.programs.items; events = job.events.items } in
     let same : of_job copy ≡ of_job job = λ i. record { frames = frames i; names = names i; programs = programs i; events = events i } in
@@ -234,7 +234,7 @@ module _ (job : Job) (held : List ℕ) (number : ℕ) (store : FlatStore) (write
     fuse = ap (λ (origin : Origin). origin.stop) left.origin
 
     few-writes : stop.reached ≡ false → disk_writes disk < write
-    few-writes un = subst (λ (fuse : Option (ℕ × List ℕ)). disk_writes disk < number_of fuse) fuse (told.unreached un).1
+    few-writes un = subst (λ (fuse : Option (ℕ × List ℕ)). disk_writes disk < stop_number fuse) fuse (told.unreached un).1
 
     first-is : disk_first disk ≡ held
     first-is = ap (λ (origin : Origin). origin.first) left.origin
@@ -248,7 +248,7 @@ module _ (job : Job) (held : List ℕ) (number : ℕ) (store : FlatStore) (write
         record {
           stopped = λ is.
               subst (λ (image : List ℕ). ∥ WereStopped held write outcome image ∥₁) (sym told.image_is)
-              (subst (λ (origin : Origin). ∥ WereStopped origin.first (number_of origin.stop) (outcome_of origin.stop) (disk_held disk) ∥₁) left.origin (told.reached is));
+              (subst (λ (origin : Origin). ∥ WereStopped origin.first (stop_number origin.stop) (outcome_of origin.stop) (disk_held disk) ∥₁) left.origin (told.reached is));
           ended = λ un. (
             disk_writes disk,
             few-writes un,

@@ -1,11 +1,11 @@
 -- A disk that is to stop within one of its writes stays one, at each of its calls.
-use Rattle.drills.proofs.Common.{◌≡◌, ◌≢◌, inl, inr, ℕ, ◌+◌, ◌-◌, ◌<◌, ◌≤◌, ◌^◌, min, Bool, true, false, List, [], ◌∷◌, ◌++◌, length, length-append, refl, sym, ◌∙◌, ap, subst, arith, Option, Some, None, Result, Ok, Err, if◌then◌else◌, disk_faults, disk_first, disk_held, disk_writes, cases_Bool, or_cases, eqb-false, eqb-true, Failed, MemoryDisk, CountsWrite, written, CountsFault, disk_origin, disk_plan, is_disk_starved, Answers, FoundNoMemory, IsRecorded, WasTried, Origin, Plan, after_call, after_write, fate_of, held_by_fate, is_failed, is_failing, is_last, outcome_of, stops, IsStopping, KeepsTo, WereStopped, WereWritten, after_writes, number_of}
+use Rattle.drills.proofs.Common.{◌≡◌, ◌≢◌, inl, inr, ℕ, ◌+◌, ◌-◌, ◌<◌, ◌≤◌, ◌^◌, min, Bool, true, false, List, [], ◌∷◌, ◌++◌, length, length-append, refl, sym, ◌∙◌, ap, subst, arith, Option, Some, None, Result, Ok, Err, if◌then◌else◌, disk_faults, disk_first, disk_held, disk_writes, cases_Bool, or_cases, eqb-false, eqb-true, Failed, MemoryDisk, CountsWrite, written, CountsFault, disk_origin, disk_plan, is_disk_starved, FailsAsDue, FoundNoMemory, IsRecorded, WasTried, Origin, DiskPlan, after_call, after_write, fate_of, held_by_fate, is_failed, is_failing, is_last, outcome_of, stops, IsStopping, KeepsTo, WereStopped, WereWritten, after_writes, stop_number}
 use Rattle.std.proofs.Math.Logic.{∥∥₁_map}
-use Rattle.outside.specs.declared.record.Fate.{Fate}
-use Rattle.outside.specs.declared.record.Fate.TheVariants.{Whole, Refused, Cut, Stopped}
+use Rattle.outside.specs.declared.call_record.Fate.{Fate}
+use Rattle.outside.specs.declared.call_record.Fate.TheVariants.{Whole, Refused, Cut, Stopped}
 use Rattle.outside.specs.declared.refusals.Call.{Call}
 use Rattle.outside.specs.declared.refusals.Call.TheVariants.{Write}
-use Rattle.outside.specs.Refusals.{is_refused, used_up}
+use Rattle.outside.specs.Refusals.{is_call_refused, used_up}
 
 -- one write more
 one-more : (first : List ℕ) (writes : List (ℕ × List ℕ)) (at : ℕ) (bytes : List ℕ) → after_writes first (writes ++ (at, bytes) ∷ []) ≡ written (after_writes first writes) at bytes
@@ -20,15 +20,15 @@ more-written first held count at bytes are = record {
 }
 
 -- the last write is that of the fuse
-last-is : (fuse : Option (ℕ × List ℕ)) (number : ℕ) → is_last fuse number ≡ true → number_of fuse ≡ number
+last-is : (fuse : Option (ℕ × List ℕ)) (number : ℕ) → is_last fuse number ≡ true → stop_number fuse ≡ number
 last-is None number last = absurd (cc)
 last-is (Some fuse) number last = eqb-true fuse.0 number last
 
-not-last : (fuse : Option (ℕ × List ℕ)) (number : ℕ) → fuse ≡ Some (number_of fuse, outcome_of fuse) → is_last fuse number ≡ false → number_of fuse ≢ number
+not-last : (fuse : Option (ℕ × List ℕ)) (number : ℕ) → fuse ≡ Some (stop_number fuse, outcome_of fuse) → is_last fuse number ≡ false → stop_number fuse ≢ number
 not-last None number fused last = absurd (cc)
 not-last (Some fuse) number fused last = eqb-false fuse.0 number last
 
-module _ (plan : Plan) (first held : List ℕ) (writes faults : ℕ) (starved : Bool) (is : KeepsTo plan first held writes faults starved) where
+module _ (plan : DiskPlan) (first held : List ℕ) (writes faults : ℕ) (starved : Bool) (is : KeepsTo plan first held writes faults starved) where
   -- a call that found no memory
   pub none-keeps : KeepsTo plan first held writes (min (faults + 1) (2 ^ 64 - 1)) true
   none-keeps = record {
@@ -63,15 +63,15 @@ module _ (plan : Plan) (first held : List ℕ) (writes faults : ℕ) (starved : 
 
     pub asked-failed : is_failing plan kind from to ≡ true → KeepsTo (after_call plan kind from to) first held writes (min (faults + 1) (2 ^ 64 - 1)) starved
     asked-failed fails =
-        let off : plan.stopped ≡ true = elim (or_cases plan.stopped (is_refused kind from to plan.refusals) fails) [
+        let off : plan.stopped ≡ true = elim (or_cases plan.stopped (is_call_refused kind from to plan.refusals) fails) [
           | inl stopped ↦ stopped
-          | inr refused ↦ absurd (let none : is_refused kind from to plan.refusals ≡ false = ap (is_refused kind from to) is.unrefused in cc)
+          | inr refused ↦ absurd (let none : is_call_refused kind from to plan.refusals ≡ false = ap (is_call_refused kind from to) is.unrefused in cc)
         ] in
         keeps-asked (min (faults + 1) (2 ^ 64 - 1)) (λ on unstarved. absurd (cc)) (λ stopped. let some = is.failed off in omega (arith, some))
 
   -- a write
   module _ (at to : ℕ) (bytes : List ℕ) where
-    abbrev done : Plan
+    abbrev done : DiskPlan
     done = after_write plan at to
 
     abbrev left : Fate → List ℕ
@@ -80,15 +80,15 @@ module _ (plan : Plan) (first held : List ℕ) (writes faults : ℕ) (starved : 
     abbrev fate_by : (stopped last refused : Bool) → Fate
     fate_by stopped last refused = if stopped then Stopped else if last then Cut else if refused then Refused else Whole
 
-    unrefused : is_refused Write at to plan.refusals ≡ false
-    unrefused = ap (is_refused Write at to) is.unrefused
+    unrefused : is_call_refused Write at to plan.refusals ≡ false
+    unrefused = ap (is_call_refused Write at to) is.unrefused
 
     -- of a disk that has stopped
     fate-stopped : plan.stopped ≡ true → fate_of plan at to ≡ Stopped
-    fate-stopped off = ap (λ (stopped : Bool). fate_by stopped (is_last plan.fuse (plan.tries + 1)) (is_refused Write at to plan.refusals)) off
+    fate-stopped off = ap (λ (stopped : Bool). fate_by stopped (is_last plan.fuse (plan.tries + 1)) (is_call_refused Write at to plan.refusals)) off
 
     -- of one that is stopped since
-    once-stopped : done.stopped ≡ true → ∥ WereStopped first (number_of plan.fuse) (outcome_of plan.fuse) (left (fate_of plan at to)) ∥₁ → 1 ≤ min (faults + 1) (2 ^ 64 - 1) → KeepsTo done first (left (fate_of plan at to)) writes (min (faults + 1) (2 ^ 64 - 1)) starved
+    once-stopped : done.stopped ≡ true → ∥ WereStopped first (stop_number plan.fuse) (outcome_of plan.fuse) (left (fate_of plan at to)) ∥₁ → 1 ≤ min (faults + 1) (2 ^ 64 - 1) → KeepsTo done first (left (fate_of plan at to)) writes (min (faults + 1) (2 ^ 64 - 1)) starved
     once-stopped stays were some = record {
       fused = is.fused;
       small = is.small;
@@ -104,39 +104,39 @@ module _ (plan : Plan) (first held : List ℕ) (writes faults : ℕ) (starved : 
     still-stopped : plan.stopped ≡ true → KeepsTo done first (left (fate_of plan at to)) writes (min (faults + 1) (2 ^ 64 - 1)) starved
     still-stopped off =
         let some = is.failed off in
-        once-stopped (ap stops (fate-stopped off)) (subst (λ (fate : Fate). ∥ WereStopped first (number_of plan.fuse) (outcome_of plan.fuse) (left fate) ∥₁) (sym (fate-stopped off)) (is.stopped off)) (omega (arith, some))
+        once-stopped (ap stops (fate-stopped off)) (subst (λ (fate : Fate). ∥ WereStopped first (stop_number plan.fuse) (outcome_of plan.fuse) (left fate) ∥₁) (sym (fate-stopped off)) (is.stopped off)) (omega (arith, some))
 
     module _ (on : plan.stopped ≡ false) where
       -- of one that stops now
       fate-cut : is_last plan.fuse (plan.tries + 1) ≡ true → fate_of plan at to ≡ Cut
       fate-cut last =
-          ap (λ (stopped : Bool). fate_by stopped (is_last plan.fuse (plan.tries + 1)) (is_refused Write at to plan.refusals)) on
-          ∙ ap (λ (last : Bool). fate_by false last (is_refused Write at to plan.refusals)) last
+          ap (λ (stopped : Bool). fate_by stopped (is_last plan.fuse (plan.tries + 1)) (is_call_refused Write at to plan.refusals)) on
+          ∙ ap (λ (last : Bool). fate_by false last (is_call_refused Write at to plan.refusals)) last
 
       stops-now : is_last plan.fuse (plan.tries + 1) ≡ true → KeepsTo done first (left (fate_of plan at to)) writes (min (faults + 1) (2 ^ 64 - 1)) starved
       stops-now last =
           let fate = fate-cut last in let number = last-is plan.fuse (plan.tries + 1) last in
-          let before : plan.tries ≡ number_of plan.fuse - 1 = omega (arith, number) in
+          let before : plan.tries ≡ stop_number plan.fuse - 1 = omega (arith, number) in
           once-stopped (ap stops fate)
-          (subst (λ (fate : Fate). ∥ WereStopped first (number_of plan.fuse) (outcome_of plan.fuse) (left fate) ∥₁) (sym fate)
+          (subst (λ (fate : Fate). ∥ WereStopped first (stop_number plan.fuse) (outcome_of plan.fuse) (left fate) ∥₁) (sym fate)
           (∥∥₁_map (is.whole on)
           (λ (are : WereWritten first plan.tries held).
-          let that : WereStopped first (number_of plan.fuse) (outcome_of plan.fuse) (left Cut) =
+          let that : WereStopped first (stop_number plan.fuse) (outcome_of plan.fuse) (left Cut) =
           record { before = held; whole = subst (λ (n : ℕ). WereWritten first n held) before are; at = at; range = length bytes; left = refl } in that)))
           (omega arith)
 
       -- of one that goes on
       fate-whole : is_last plan.fuse (plan.tries + 1) ≡ false → fate_of plan at to ≡ Whole
       fate-whole last =
-          ap (λ (stopped : Bool). fate_by stopped (is_last plan.fuse (plan.tries + 1)) (is_refused Write at to plan.refusals)) on
-          ∙ ap (λ (last : Bool). fate_by false last (is_refused Write at to plan.refusals)) last
+          ap (λ (stopped : Bool). fate_by stopped (is_last plan.fuse (plan.tries + 1)) (is_call_refused Write at to plan.refusals)) on
+          ∙ ap (λ (last : Bool). fate_by false last (is_call_refused Write at to plan.refusals)) last
           ∙ ap (fate_by false false) unrefused
 
       goes-on : is_last plan.fuse (plan.tries + 1) ≡ false → KeepsTo done first (left (fate_of plan at to)) (writes + 1) faults starved
       goes-on last =
           let fate = fate-whole last in let other = not-last plan.fuse (plan.tries + 1) is.fused last in
           let below = is.few on in
-          let few : plan.tries + 1 < number_of plan.fuse = omega (arith, other, below) in
+          let few : plan.tries + 1 < stop_number plan.fuse = omega (arith, other, below) in
           let small = is.small in
           let count : done.tries ≡ plan.tries + 1 = omega (arith, few, small) in
           let still : done.stopped ≡ false = ap stops fate in
@@ -176,7 +176,7 @@ module _ (plan : Plan) (first held : List ℕ) (writes faults : ℕ) (starved : 
 
 -- the parts of which that is said
 record Parts : Type 0 where
-  plan : Plan
+  plan : DiskPlan
   first : List ℕ
   held : List ℕ
   writes : ℕ
@@ -185,7 +185,7 @@ record Parts : Type 0 where
 
 -- so at each call of the disk
 module _ (old new : MemoryDisk) (is : IsStopping old) (origin : disk_origin new ≡ disk_origin old) where
-  by-parts : (plan : Plan) (held : List ℕ) (writes faults : ℕ) (starved : Bool) → disk_plan new ≡ plan → disk_held new ≡ held → disk_writes new ≡ writes → disk_faults new ≡ faults → is_disk_starved new ≡ starved
+  by-parts : (plan : DiskPlan) (held : List ℕ) (writes faults : ℕ) (starved : Bool) → disk_plan new ≡ plan → disk_held new ≡ held → disk_writes new ≡ writes → disk_faults new ≡ faults → is_disk_starved new ≡ starved
       → KeepsTo plan (disk_first old) held writes faults starved → IsStopping new
   by-parts plan held writes faults starved plan_is held_is writes_is faults_is starved_is keeps =
       let of_new : Parts = record { plan = disk_plan new; first = disk_first new; held = disk_held new; writes = disk_writes new; faults = disk_faults new; starved = is_disk_starved new } in
@@ -206,7 +206,7 @@ module _ (old new : MemoryDisk) (is : IsStopping old) (origin : disk_origin new 
       (none-keeps (disk_plan old) (disk_first old) (disk_held old) (disk_writes old) (disk_faults old) (is_disk_starved old) is)
 
   pub call-stops : {T : Type 0} (kind : Call) (from to : ℕ) (result : Result T Failed) → disk_held new ≡ disk_held old → disk_writes new ≡ disk_writes old
-      → Answers (is_failing (disk_plan old) kind from to) (IsRecorded (after_call (disk_plan old) kind from to) old new) old new result → CountsFault (disk_faults old) (disk_faults new) result → IsStopping new
+      → FailsAsDue (is_failing (disk_plan old) kind from to) (IsRecorded (after_call (disk_plan old) kind from to) old new) old new result → CountsFault (disk_faults old) (disk_faults new) result → IsStopping new
   call-stops kind from to (Ok nothing) held writes (well, recorded) count =
       by-parts (after_call (disk_plan old) kind from to) (disk_held old) (disk_writes old) (disk_faults old) (is_disk_starved old) recorded.plan_now held writes count recorded.marked
       (asked-done (disk_plan old) (disk_first old) (disk_held old) (disk_writes old) (disk_faults old) (is_disk_starved old) is kind from to)
@@ -216,7 +216,7 @@ module _ (old new : MemoryDisk) (is : IsStopping old) (origin : disk_origin new 
       (asked-failed (disk_plan old) (disk_first old) (disk_held old) (disk_writes old) (disk_faults old) (is_disk_starved old) is kind from to fails)
 
   pub write-stops : {T : Type 0} (at : ℕ) (bytes : List ℕ) (result : Result T Failed) → CountsWrite (Some (disk_writes old)) (Some (disk_writes new)) result
-      → Answers (is_failed (fate_of (disk_plan old) at (at + length bytes))) (WasTried at bytes old new) old new result → CountsFault (disk_faults old) (disk_faults new) result → IsStopping new
+      → FailsAsDue (is_failed (fate_of (disk_plan old) at (at + length bytes))) (WasTried at bytes old new) old new result → CountsFault (disk_faults old) (disk_faults new) result → IsStopping new
   write-stops at bytes (Ok nothing) writes (well, tried) count =
       by-parts (after_write (disk_plan old) at (at + length bytes)) _ (disk_writes old + 1) (disk_faults old) (is_disk_starved old) tried.recorded.plan_now tried.held (let more : disk_writes new ≡ disk_writes old + 1 = cc in more) count tried.recorded.marked
       (tried-done (disk_plan old) (disk_first old) (disk_held old) (disk_writes old) (disk_faults old) (is_disk_starved old) is at (at + length bytes) bytes well)
@@ -227,13 +227,13 @@ module _ (old new : MemoryDisk) (is : IsStopping old) (origin : disk_origin new 
 
 -- one that isn't starved has failed exactly where it has stopped
 module _ (disk : MemoryDisk) (is : IsStopping disk) (unstarved : is_disk_starved disk ≡ false) where
-  pub failed-stops : 0 < disk_faults disk → ∥ WereStopped (disk_first disk) (number_of (disk_plan disk).fuse) (outcome_of (disk_plan disk).fuse) (disk_held disk) ∥₁
+  pub failed-stops : 0 < disk_faults disk → ∥ WereStopped (disk_first disk) (stop_number (disk_plan disk).fuse) (outcome_of (disk_plan disk).fuse) (disk_held disk) ∥₁
   failed-stops some = elim (cases_Bool (disk_plan disk).stopped) [
     | inl off ↦ is.stopped off
     | inr on ↦ absurd (let calm = is.calm on unstarved in omega (arith, some, calm))
   ]
 
-  pub unfailed-runs : disk_faults disk ≡ 0 → (disk_writes disk < number_of (disk_plan disk).fuse) × ∥ WereWritten (disk_first disk) (disk_writes disk) (disk_held disk) ∥₁
+  pub unfailed-runs : disk_faults disk ≡ 0 → (disk_writes disk < stop_number (disk_plan disk).fuse) × ∥ WereWritten (disk_first disk) (disk_writes disk) (disk_held disk) ∥₁
   unfailed-runs none = elim (cases_Bool (disk_plan disk).stopped) [
     | inl off ↦ absurd (let some = is.failed off in omega (arith, some, none))
     | inr on ↦

@@ -1,6 +1,6 @@
 -- What a job leaves on a disk that stops at one of its writes.
 use Rattle.std.specs.Prelude.{◌≢◌, ◌≡◌, ◌⊎◌, ℕ, ◌+◌, ◌*◌, ◌%◌, ◌^◌, ◌<◌, ◌≤◌, true, false, List, [], length, map, take, count_by, IfOk, Result, Some}
-use Rattle.drills.specs.Below.{Call, call, commits_seen, disk_faults, disk_first, disk_held, disk_plan, disk_writes, FlatStore, Ghosts, Job, job_desk, MemoryDisk, names_of, order_told, outcome_of, Rose, Stands, stands, StandsAt, Status}
+use Rattle.drills.specs.Below.{Called, call, commits_seen, disk_faults, disk_first, disk_held, disk_plan, disk_writes, FlatStore, Ghosts, Job, job_desk, MemoryDisk, names_of, order_told, outcome_of, Rose, Stands, stands, StandsAt, Status}
 use Rattle.outside.specs.declared.memory_screen.MemoryScreen.{MemoryScreen}
 use Rattle.outside.specs.MemoryScreen.{screen_printed}
 use Rattle.outside.specs.Runs.{held_of}
@@ -9,17 +9,17 @@ use Rattle.flat_machine.specs.Serial.{serial}
 use Rattle.desk.specs.declared.event.Event.{Event}
 use Rattle.desk.specs.Commits.{begun, is_commit}
 use Rattle.desk.specs.Desk.{Desk}
-use Rattle.desk.specs.Instruction.{Word, Fine}
+use Rattle.desk.specs.Instruction.{DiskWord, Fine}
 use Rattle.desk.specs.Kept.{WritesMore}
 use Rattle.desk.specs.Report.{event_lines}
 use Rattle.desk.specs.Run.{run, IsRunOf}
 use Rattle.desk_law.specs.Headline.{IsPrefix}
-use Rattle.drills.specs.Stopping.{WereStopped, WereWritten, number_of}
+use Rattle.drills.specs.Stopping.{WereStopped, WereWritten, stop_number}
 use Rattle.drills.specs.declared.stops.Stop.{Stop}
 use Rattle.job_calls.specs.declared.ended.Ended.{Ended}
 
 -- events that all go well
-abbrev pub all_fine : List Event → List (Event × Word)
+abbrev pub all_fine : List Event → List (Event × DiskWord)
 all_fine events = map (λ event. (event, Fine)) events
 
 -- the commits of a job, in order, where all its events go well, from the store for which these bytes stand
@@ -28,7 +28,7 @@ fine_order job held store = (run job.programs.items (all_fine job.events.items) 
 
 -- An order and so many commit lines are those of one run of the desk over the first of these events; at most the last commit has no line.
 pub record IsStoppedRun (names : List (List ℕ)) (programs : List Program) (events : List Event) (number : ℕ) (start : Desk) (order : List (ℕ × ℕ)) (seen : ℕ) : Type 0 where
-  pub taken : List (Event × Word)
+  pub taken : List (Event × DiskWord)
   pub rest : List Event
   pub is_run : IsRunOf programs events start taken rest
   pub order_is : order ≡ (run programs taken start).order
@@ -38,7 +38,7 @@ pub record IsStoppedRun (names : List (List ℕ)) (programs : List Program) (eve
 -- What a run of a job left of the number and the store for which the disk stood. What is held now stands for the first commits, run one
 -- after another: those that are seen in what was printed or one more, where nothing was before; unless a put failed, those seen are all of
 -- one run of the desk. At Done there is one for each commit, two writes were made for each, and all events went well where no fault was counted.
-pub record IsLeft {W : Type 0} (G : Ghosts W) (job : Job) (number : ℕ) (store : FlatStore) (call : Call W) : Type 0 where
+pub record IsRunLeft {W : Type 0} (G : Ghosts W) (job : Job) (number : ℕ) (store : FlatStore) (call : Called W) : Type 0 where
   pub first : (image seen : List ℕ) → G.held call.after ≡ Some image → G.printed call.before ≡ Some [] → G.printed call.after ≡ Some seen → IsPrefix (begun job.programs.items job.events.items) number store call.order [] image seen
   pub ran : (image seen : List ℕ) → G.held call.after ≡ Some image → G.printed call.before ≡ Some [] → G.printed call.after ≡ Some seen → (call.status ≢ Status.PutFault)
       → IsStoppedRun (names_of job) job.programs.items job.events.items number (job_desk job (held_of G call.before) store) call.order (commits_seen seen) × (call.status ≡ Status.Done → commits_seen seen ≡ length call.order)
@@ -48,8 +48,8 @@ pub record IsLeft {W : Type 0} (G : Ghosts W) (job : Job) (number : ℕ) (store 
 -- what is told of a run that ended so, over a disk that is to stop and a screen
 pub record IsTold (ended : Ended) (disk : MemoryDisk) (screen : MemoryScreen) (stop : Stop) : Type 0 where
   pub status : (ended.status ≡ Status.Done) ⊎ (ended.status ≡ Status.DiskFault)
-  pub reached : stop.reached ≡ true → ∥ WereStopped (disk_first disk) (number_of (disk_plan disk).fuse) (outcome_of (disk_plan disk).fuse) (disk_held disk) ∥₁
-  pub unreached : stop.reached ≡ false → (disk_faults disk ≡ 0) × (disk_writes disk < number_of (disk_plan disk).fuse) × ∥ WereWritten (disk_first disk) (disk_writes disk) (disk_held disk) ∥₁
+  pub reached : stop.reached ≡ true → ∥ WereStopped (disk_first disk) (stop_number (disk_plan disk).fuse) (outcome_of (disk_plan disk).fuse) (disk_held disk) ∥₁
+  pub unreached : stop.reached ≡ false → (disk_faults disk ≡ 0) × (disk_writes disk < stop_number (disk_plan disk).fuse) × ∥ WereWritten (disk_first disk) (disk_writes disk) (disk_held disk) ∥₁
   pub seen : stop.seen ≡ commits_seen (screen_printed screen)
   pub order_is : stop.order.items ≡ ended.order.items
   pub image_is : stop.image.items ≡ disk_held disk
@@ -77,7 +77,7 @@ OfStanding image P = (number : ℕ) (store : FlatStore) → stands image ≡ Sta
 
 -- A copy of a job was run: what it left of a store on which every image stands; where the disk began stays, and it failed only where its count rose.
 pub record HasRunCopy {W : Type 0} (G : Ghosts W) (job : Job) (before after : W) (ended : Ended) : Type 0 where
-  pub left : (number : ℕ) (store : FlatStore) → StandsAt G before number store → IsLeft G job number store (call before after (order_told ended.order.items) ended.status)
+  pub left : (number : ℕ) (store : FlatStore) → StandsAt G before number store → IsRunLeft G job number store (call before after (order_told ended.order.items) ended.status)
   pub origin : (G.moment after).origin ≡ (G.moment before).origin
   pub disk : ended.status ≡ Status.DiskFault → Rose (G.disk_faults before) (G.disk_faults after)
 

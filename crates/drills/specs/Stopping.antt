@@ -1,6 +1,6 @@
 -- A disk in memory that stops within one of its writes, and fails at nothing else.
 use Rattle.std.specs.Prelude.{◌≡◌, ℕ, ◌-◌, ◌^◌, ◌<◌, ◌≤◌, Bool, true, false, List, [], ◌∷◌, length, take, Option, None, Some}
-use Rattle.drills.specs.Below.{disk_faults, disk_first, disk_held, disk_plan, disk_writes, is_disk_starved, MemoryDisk, outcome_of, Plan}
+use Rattle.drills.specs.Below.{disk_faults, disk_first, disk_held, disk_plan, disk_writes, is_disk_starved, MemoryDisk, outcome_of, DiskPlan}
 use Rattle.outside.specs.Bytes.{written}
 
 -- the bytes held after writes, one after another, each of bytes at an offset
@@ -24,21 +24,21 @@ pub record WereStopped (first : List ℕ) (write : ℕ) (outcome held : List ℕ
   pub left : held ≡ written before at (take range outcome)
 
 -- the number of the write at which a disk is to stop
-abbrev pub number_of : Option (ℕ × List ℕ) → ℕ
-number_of None = 0
-number_of (Some fuse) = fuse.0
+abbrev pub stop_number : Option (ℕ × List ℕ) → ℕ
+stop_number None = 0
+stop_number (Some fuse) = fuse.0
 
 -- A disk's plan is to stop within a write, and its bytes and counts keep to that: until it stops only want of memory counts a fault, and its writes are of
 -- all their bytes; once it has stopped it stopped there.
-pub record KeepsTo (plan : Plan) (first held : List ℕ) (writes faults : ℕ) (starved : Bool) : Type 0 where
-  pub fused : plan.fuse ≡ Some (number_of plan.fuse, outcome_of plan.fuse)
-  pub small : number_of plan.fuse < 2 ^ 32
+pub record KeepsTo (plan : DiskPlan) (first held : List ℕ) (writes faults : ℕ) (starved : Bool) : Type 0 where
+  pub fused : plan.fuse ≡ Some (stop_number plan.fuse, outcome_of plan.fuse)
+  pub small : stop_number plan.fuse < 2 ^ 32
   pub unrefused : plan.refusals ≡ []
-  pub few : plan.stopped ≡ false → plan.tries < number_of plan.fuse
+  pub few : plan.stopped ≡ false → plan.tries < stop_number plan.fuse
   pub counted : plan.stopped ≡ false → writes ≡ plan.tries
   pub whole : plan.stopped ≡ false → ∥ WereWritten first plan.tries held ∥₁
   pub calm : plan.stopped ≡ false → starved ≡ false → faults ≡ 0
-  pub stopped : plan.stopped ≡ true → ∥ WereStopped first (number_of plan.fuse) (outcome_of plan.fuse) held ∥₁
+  pub stopped : plan.stopped ≡ true → ∥ WereStopped first (stop_number plan.fuse) (outcome_of plan.fuse) held ∥₁
   pub failed : plan.stopped ≡ true → 1 ≤ faults
 
 -- a disk in memory does

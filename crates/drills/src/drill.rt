@@ -1,6 +1,6 @@
 // A drill: a job that is stopped at its writes in turn.
 ghost use Rattle.std.specs.Prelude.{◌≡◌, ◌⊎◌, ◌≤◌, length, MatchOption, IfOk};
-ghost use Rattle.drills.specs.Below.{IsReady, IsStanding, Puts, PutsTimes};
+ghost use Rattle.drills.specs.Below.{IsReady, IsStanding, PrintsBytes, PutsTimes};
 ghost use Rattle.drills.specs.Drill.{OfStanding};
 ghost use Rattle.drills.specs.Drilled.{DrilledTo, DrillsFrom, EndsBefore, FoundAt, IsPair, PutsStops, try_order, stop_line, pair_lines, last_line};
 
@@ -28,7 +28,7 @@ pub struct Found {
 
 /// What the two stops at a write came to: where the write left nothing, and where it left one byte.
 #[derive(Clone, Copy)]
-pub struct Pair {
+pub struct StopPair {
     pub old: Found,
     pub torn: Found,
 }
@@ -87,7 +87,7 @@ fn put_stops<W: Outside>(
 }
 
 /// What the two stops at the write with this number come to, if the run has as many writes.
-fn pair_at(alloc: Global, job: &Job, write: u32) -> Result<Option<Pair>, AllocError>
+fn pair_at(alloc: Global, job: &Job, write: u32) -> Result<Option<StopPair>, AllocError>
     requires ready { IsReady job.now }
     requires write { 1 ≤ write }
     ensures { IfOk result (λ pair. MatchOption pair (EndsBefore job.now write) (IsPair job.now write)) }
@@ -100,7 +100,7 @@ fn pair_at(alloc: Global, job: &Job, write: u32) -> Result<Option<Pair>, AllocEr
     let Some(torn) = found_at(alloc, job, write, outcome)? else {
         return Ok(None);
     };
-    Ok(Some(Pair { old, torn }))
+    Ok(Some(StopPair { old, torn }))
 }
 
 /// What a stop at the write with this number comes to, with this outcome, if the run has as many writes.
@@ -153,10 +153,10 @@ fn last_number(alloc: Global, job: &Job) -> Result<u64, AllocError>
 fn put_pair<W: Outside>(
     text: &mut TextLine,
     write: u32,
-    pair: &Pair,
+    pair: &StopPair,
     outside: &mut W,
 ) -> Result<(), Failed>
-    ensures puts { Puts W.Outside (pair_lines write pair.now) outside.old outside.new result }
+    ensures puts { PrintsBytes W.Outside (pair_lines write pair.now) outside.old outside.new result }
     ensures times { PutsTimes W.Outside 2 outside.old outside.new result }
 {
     put_stop(text, write, b"old", &pair.old, outside)?;
@@ -172,7 +172,7 @@ fn put_stop<W: Outside>(
     outside: &mut W,
 ) -> Result<(), Failed>
     requires { length left.now ≤ 16 }
-    ensures puts { Puts W.Outside (stop_line write left.now found.now) outside.old outside.new result }
+    ensures puts { PrintsBytes W.Outside (stop_line write left.now found.now) outside.old outside.new result }
     ensures times { PutsTimes W.Outside 1 outside.old outside.new result }
 {
     text.begin(b"stop");
@@ -191,7 +191,7 @@ fn put_last<W: Outside>(
     number: u64,
     outside: &mut W,
 ) -> Result<(), Failed>
-    ensures puts { Puts W.Outside (last_line stops number) outside.old outside.new result }
+    ensures puts { PrintsBytes W.Outside (last_line stops number) outside.old outside.new result }
     ensures times { PutsTimes W.Outside 1 outside.old outside.new result }
 {
     text.begin(b"drill");

@@ -4,10 +4,10 @@ pub use Rattle.call_status.specs.Opening.{IsFaultAt, TellsStore}
 pub use Rattle.call_status.specs.declared.status.Status.{Status}
 pub use Rattle.desk.specs.Commits.{IsSerial, begun, serial_lines}
 pub use Rattle.desk.specs.Desk.{Desk}
-pub use Rattle.desk.specs.Lines.{Line}
+pub use Rattle.desk.specs.ReportLines.{ReportLine}
 pub use Rattle.desk.specs.Report.{event_lines, report}
 pub use Rattle.desk.specs.Run.{IsRunOf, run}
-pub use Rattle.file_runs.specs.FileRun.{AreBehind, Hands, IsBehind, IsQuiet, IsSeenAt, KeepsFile, LeavesAlways, LeavesAt, LeavesLast, OnlyAsked, RanOnFile, RanOnScreen, RunsFrom, RunsOnFile, begun_by}
+pub use Rattle.file_runs.specs.FileRun.{AreBehind, Hands, IsBehind, IsQuiet, IsSeenAt, KeepsFile, LeavesAlways, LeavesAt, LeavesLast, OnlyAsked, RanOnFile, RanOnScreen, FromAnyStore, RunsOnFile, begun_by}
 pub use Rattle.file_runs.specs.FileWords.{DidOnFile, IsOnFile}
 pub use Rattle.file_runs.specs.ScreenWords.{AuditedOnScreen, AuditsBy, DidOnScreen, DrilledJob, DrilledOnScreen, DrillsBy, HandsDrill, HandsLoad, HandsStops, ListedOnScreen, LoadedOnScreen, TracedOnScreen, TracesBy, TriedOnScreen}
 pub use Rattle.job_calls.specs.Headline.{Happened, RanJob, Refused, job_desk, names_of}
@@ -17,9 +17,9 @@ pub use Rattle.outside.specs.Durable.{IsSure}
 pub use Rattle.outside.specs.Runs.{held_of}
 pub use Rattle.outside.specs.declared.failed.Failed.{Failed}
 pub use Rattle.outside.specs.declared.world.Outside.{Ghosts}
-pub use Rattle.real_files.specs.Deeds.{Deed, Synced, Tore, Unsynced, Wrote, images_after, images_at, images_by, is_write}
-pub use Rattle.real_files.specs.Shown.{bytes_of, marks_of, printed_of}
+pub use Rattle.real_files.specs.Deeds.{Deed, Synced, Tore, Unsynced, Wrote, file_images_after, file_images_at, file_images_by, deed_writes}
+pub use Rattle.real_files.specs.Shown.{bytes_put, marks_of, printed_of}
 pub use Rattle.std.specs.Prelude.{All, cond, count_by, false, ◌*◌}
 pub use Rattle.store_calls.specs.New.{IsNoStore, IsStored, Written, WrittenBy, new_line}
 pub use Rattle.store_format.specs.Stands.{Standing, Stands, stands}
-pub use Rattle.supervisor.specs.declared.session.SessionState.{SessionState}
+pub use Rattle.session.specs.declared.session.SessionState.{SessionState}

@@ -1,12 +1,12 @@
 -- From what the console did on an outside to what it did on the file and the screen behind it.
-use Rattle.file_runs.proofs.Common.{◌≡◌, inl, inr, ⊎_elim, ℕ, ◌+◌, ◌≤◌, List, [], ◌∷◌, ◌++◌, append_assoc, Torn, written, length, length-append, take, drop, refl, sym, ◌∙◌, ap, subst, arith, suc, Option, Result, Some, IsSome, unwrap_or, Leaves, AsksAndPuts, OnlyAsks, None, Ghosts, All, cond, count_by, false, IsSure, FlatStore, Stands, stands, begun, IsSerial, Given, call, IsFaultAt, TellsStore, Status, SessionState, report, event_lines, Desk, IsRunOf, run, Line, Failed, held_of, Happened, RanJob, Refused, job_desk, names_of, Deed, Wrote, Tore, Synced, Unsynced, images_after, images_at, images_by, is_write, bytes_of, printed_of, marks_of, AreBehind, Hands, IsBehind, IsQuiet, IsSeenAt, KeepsFile, LeavesAlways, LeavesAt, LeavesLast, OnlyAsked, RanOnFile, RanOnScreen, RunsFrom, RunsOnFile, begun_by}
+use Rattle.file_runs.proofs.Common.{◌≡◌, inl, inr, ⊎_elim, ℕ, ◌+◌, ◌≤◌, List, [], ◌∷◌, ◌++◌, append_assoc, Torn, written, length, length-append, take, drop, refl, sym, ◌∙◌, ap, subst, arith, suc, Option, Result, Some, IsSome, unwrap_or, Leaves, AsksAndPuts, OnlyAsks, None, Ghosts, All, cond, count_by, false, IsSure, FlatStore, Stands, stands, begun, IsSerial, Given, call, IsFaultAt, TellsStore, Status, SessionState, report, event_lines, Desk, IsRunOf, run, ReportLine, Failed, held_of, Happened, RanJob, Refused, job_desk, names_of, Deed, Wrote, Tore, Synced, Unsynced, file_images_after, file_images_at, file_images_by, deed_writes, bytes_put, printed_of, marks_of, AreBehind, Hands, IsBehind, IsQuiet, IsSeenAt, KeepsFile, LeavesAlways, LeavesAt, LeavesLast, OnlyAsked, RanOnFile, RanOnScreen, FromAnyStore, RunsOnFile, begun_by}
 use Rattle.std.proofs.lemmas.List.{append_cancel_left, nil_from_length, take_all}
 use Rattle.std.proofs.lemmas.List.Elements.{All-nil, All-cons}
 use Rattle.outside.proofs.Torn.{torn_by_written, untouched}
 use Rattle.std.proofs.lemmas.List.Sums.{sum_by-cons}
 use Rattle.std.proofs.lemmas.Bool.{cases_lt}
 use Rattle.std.proofs.lemmas.Bool.Decides.{nat_tests}
-use Rattle.outside.specs.Clock.{shown_by, start_of}
+use Rattle.outside.specs.Clock.{shown_by, put_start}
 use Rattle.outside.specs.Moments.{Moment}
 use Rattle.desk_law.specs.Headline.{IsPrefix}
 use Rattle.desk_law.proofs.HeadlineLemmas.{start_is_prefix}
@@ -16,7 +16,7 @@ use Rattle.desk.specs.Kept.{KeepsJournal, journal_in}
 use Rattle.outside.specs.Bytes.{AreTold, Prints}
 
 -- nothing was printed before the first put
-none_before : (puts : List Deed) → start_of (marks_of 0 puts) (length (printed_of puts)) 0 ≡ 0
+none_before : (puts : List Deed) → put_start (marks_of 0 puts) (length (printed_of puts)) 0 ≡ 0
 none_before [] = refl
 none_before (put ∷ puts) = refl
 
@@ -28,10 +28,10 @@ told_is None left has is = cc
 -- a mark for each put
 pub marks_counted : (before : ℕ) (puts : List Deed) → length (marks_of before puts) ≡ length puts
 marks_counted before [] = refl
-marks_counted before (put ∷ puts) = ap suc (marks_counted (before + length (bytes_of put)) puts)
+marks_counted before (put ∷ puts) = ap suc (marks_counted (before + length (bytes_put put)) puts)
 
 -- a failed write of some bytes may leave two images
-no_bytes : (first held : List ℕ) (images : List ℕ → Type 0) (at : ℕ) (bytes : List ℕ) → images held → ((image : List ℕ) → images_by (Tore at bytes) held images image → image ≡ first) → bytes ≡ []
+no_bytes : (first held : List ℕ) (images : List ℕ → Type 0) (at : ℕ) (bytes : List ℕ) → images held → ((image : List ℕ) → file_images_by (Tore at bytes) held images image → image ≡ first) → bytes ≡ []
 no_bytes first held images at [] now kept = refl
 no_bytes first held images at (b ∷ bs) now kept =
     let rest = drop (at + length (b ∷ bs)) held in
@@ -52,39 +52,39 @@ no_bytes first held images at (b ∷ bs) now kept =
     (cases_lt (length held) at)
 
 -- so where no write succeeded and one image alone may be left, the deeds change nothing
-quiet_by : (first held : List ℕ) (images : List ℕ → Type 0) (deeds : List Deed) → images held → count_by is_write deeds ≡ 0
-    → ((done : ℕ) (image : List ℕ) → done ≤ length deeds → images_after held images (take done deeds) image → image ≡ first) → All IsQuiet deeds
+quiet_by : (first held : List ℕ) (images : List ℕ → Type 0) (deeds : List Deed) → images held → count_by deed_writes deeds ≡ 0
+    → ((done : ℕ) (image : List ℕ) → done ≤ length deeds → file_images_after held images (take done deeds) image → image ≡ first) → All IsQuiet deeds
 quiet_by first held images [] now none kept = All-nil IsQuiet
 quiet_by first held images (Wrote at bytes ∷ deeds) now none kept =
-    let more : count_by is_write (Wrote at bytes ∷ deeds) ≡ 1 + count_by is_write deeds = sum_by-cons (λ deed. cond (is_write deed) 1 0) (Wrote at bytes) deeds in
+    let more : count_by deed_writes (Wrote at bytes ∷ deeds) ≡ 1 + count_by deed_writes deeds = sum_by-cons (λ deed. cond (deed_writes deed) 1 0) (Wrote at bytes) deeds in
     absurd (omega (arith, more, none))
 quiet_by first held images (Tore at bytes ∷ deeds) now none kept =
     All-cons IsQuiet (Tore at bytes) deeds (no_bytes first held images at bytes now (λ image left. kept 1 image (omega arith) left))
-    (quiet_by first (written held at bytes) (images_by (Tore at bytes) held images) deeds (inl refl) none (λ done image few left. kept (suc done) image (omega (arith, few)) left))
+    (quiet_by first (written held at bytes) (file_images_by (Tore at bytes) held images) deeds (inl refl) none (λ done image few left. kept (suc done) image (omega (arith, few)) left))
 quiet_by first held images (Synced ∷ deeds) now none kept =
     All-cons IsQuiet Synced deeds tt (quiet_by first held (λ image. image ≡ held) deeds refl none (λ done image few left. kept (suc done) image (omega (arith, few)) left))
 quiet_by first held images (Unsynced ∷ deeds) now none kept =
     All-cons IsQuiet Unsynced deeds tt (quiet_by first held images deeds now none (λ done image few left. kept (suc done) image (omega (arith, few)) left))
 
-keeps_file : (first : List ℕ) (deeds : List Deed) → count_by is_write deeds ≡ 0 → LeavesAlways first deeds (λ image. image ≡ first) → KeepsFile first deeds
+keeps_file : (first : List ℕ) (deeds : List Deed) → count_by deed_writes deeds ≡ 0 → LeavesAlways first deeds (λ image. image ≡ first) → KeepsFile first deeds
 keeps_file first deeds none kept = record { quiet = quiet_by first first (λ image. image ≡ first) deeds refl none kept; kept = kept }
 
 -- no fewer bytes stood before a put than before the first
 from_first : (before : ℕ) (puts : List Deed) (count at : ℕ) → before + length (printed_of puts) ≤ count → before ≤ shown_by (marks_of before puts) count at
 from_first before [] count at few = omega (arith, few)
 from_first before (put ∷ puts) count at few =
-    let all = length-append (bytes_of put) (printed_of puts) in
-    let rest = from_first (before + length (bytes_of put)) puts count at (omega (arith, few, all)) in
+    let all = length-append (bytes_put put) (printed_of puts) in
+    let rest = from_first (before + length (bytes_put put)) puts count at (omega (arith, few, all)) in
     grind (arith, nat_tests)
 
 -- nor before the first put at one deed more
 later_more : (before : ℕ) (puts : List Deed) (count at : ℕ) → before + length (printed_of puts) ≤ count → shown_by (marks_of before puts) count at ≤ shown_by (marks_of before puts) count (at + 1)
 later_more before [] count at few = omega arith
 later_more before (put ∷ puts) count at few =
-    let all = length-append (bytes_of put) (printed_of puts) in
-    let enough : before + length (bytes_of put) + length (printed_of puts) ≤ count = omega (arith, few, all) in
-    let rest = later_more (before + length (bytes_of put)) puts count at enough in
-    let least = from_first (before + length (bytes_of put)) puts count (at + 1) enough in grind (arith, nat_tests)
+    let all = length-append (bytes_put put) (printed_of puts) in
+    let enough : before + length (bytes_put put) + length (printed_of puts) ≤ count = omega (arith, few, all) in
+    let rest = later_more (before + length (bytes_put put)) puts count at enough in
+    let least = from_first (before + length (bytes_put put)) puts count (at + 1) enough in grind (arith, nat_tests)
 
 -- so at each number of deeds something may have been seen
 seen_at : (puts : List Deed) (done : ℕ) → (seen : List ℕ) × IsSeenAt puts done seen
@@ -142,7 +142,7 @@ module _ {W : Type 0} (G : Ghosts W) (before after : W) (first : List ℕ) (puts
         all = did.all;
         serial_run =
             let with_end = subst (λ (end : Desk). IsSerial acts number store order did.ran.lines end.committed end.closed) did.ran.end_is did.ran.serial_run in
-            let with_lines = subst (λ (lines : List Line). IsSerial acts number store order lines (run programs taken (desk (held_of G before))).committed (run programs taken (desk (held_of G before))).closed) did.ran.lines_are with_end in
+            let with_lines = subst (λ (lines : List ReportLine). IsSerial acts number store order lines (run programs taken (desk (held_of G before))).committed (run programs taken (desk (held_of G before))).closed) did.ran.lines_are with_end in
             let with_names = subst (λ (names : List (List ℕ)). IsSerial acts number store order (event_lines names programs number taken (desk (held_of G before))) (run programs taken (desk (held_of G before))).committed (run programs taken (desk (held_of G before))).closed) did.named with_lines in
             subst (λ (bytes : List ℕ). IsSerial acts number store order (event_lines (names_of ran.job) programs number taken (desk bytes)) (run programs taken (desk bytes)).committed (run programs taken (desk bytes)).closed) held_is with_names;
         put = did.put;
@@ -154,7 +154,7 @@ module _ {W : Type 0} (G : Ghosts W) (before after : W) (first : List ℕ) (puts
 
 module _ {W : Type 0} (G : Ghosts W) (before after : W) (first : List ℕ) (deeds puts : List Deed) (behind : AreBehind G before after first deeds puts) where
   -- the file's images after so many deeds, and what may have been seen then, are a pair that a crash may have left since the start
-  since_start : (done : ℕ) (image seen : List ℕ) → done ≤ length deeds → images_at first deeds done image → IsSeenAt puts done seen → G.left_since after (G.moment before) image seen
+  since_start : (done : ℕ) (image seen : List ℕ) → done ≤ length deeds → file_images_at first deeds done image → IsSeenAt puts done seen → G.left_since after (G.moment before) image seen
   since_start done image seen within is_image seen_at =
       subst (λ (t : Moment). G.left_since after t image seen) (sym behind.moment) (behind.since (begun_by first) image seen (record {
         at = done;
@@ -177,8 +177,8 @@ module _ {W : Type 0} (G : Ghosts W) (before after : W) (first : List ℕ) (deed
       let its = seen_at puts done in leaves image its.0 (since_start done image its.0 within is_image its.1)
 
   -- where as many writes succeeded as before, none did
-  unwritten : G.writes after ≡ G.writes before → count_by is_write deeds ≡ 0
-  unwritten same = let is : Some (count_by is_write deeds) ≡ Some 0 = sym behind.writes ∙ same ∙ behind.unwritten in cc
+  unwritten : G.writes after ≡ G.writes before → count_by deed_writes deeds ≡ 0
+  unwritten same = let is : Some (count_by deed_writes deeds) ≡ Some 0 = sym behind.writes ∙ same ∙ behind.unwritten in cc
 
   -- where each pair has an image of the start, the file keeps its bytes
   pub keeps : AsksAndPuts G before after → KeepsFile first deeds
@@ -210,7 +210,7 @@ module _ {W : Type 0} (G : Ghosts W) (before after : W) (first : List ℕ) (deed
       subst (λ (those : Option (List ℕ)). AreTold those left) held (sure.durable left its.0 its.1)
 
   pub ran_on_file : (given : Given) (order : List (ℕ × ℕ)) (status : Status) (session : Option SessionState) → RanJob G given (call before after order status) session
-      → RunsFrom first (λ number store. RanOnFile given number store first deeds puts order status)
+      → FromAnyStore first (λ number store. RanOnFile given number store first deeds puts order status)
   unfolding ran_on_screen
   ran_on_file given order status session ran number store stood =
       let did = ran.has_run number store (stands_at G before after first puts behind.screen number store stood) in
@@ -231,7 +231,7 @@ module _ {W : Type 0} (G : Ghosts W) (before after : W) (first : List ℕ) (deed
             (did.seen (printed_told G before after first puts behind.screen) image seen was));
         journal = λ still image left.
             let open_end : did.ran.end.closed ≡ false = ap (λ (end : Desk). end.closed) did.ran.end_is ∙ ap (λ (bytes : List ℕ). (run programs taken (desk bytes)).closed) held ∙ still in
-            let kept = subst (λ (these : List Line). KeepsJournal these (journal_in (held_of G before)) (journal_in (held_of G after))) lines (did.ran.to.journal open_end) in
+            let kept = subst (λ (these : List ReportLine). KeepsJournal these (journal_in (held_of G before)) (journal_in (held_of G after))) lines (did.ran.to.journal open_end) in
             subst (λ (bytes : List ℕ). KeepsJournal (event_lines (names_of ran.job) programs number taken (desk first)) (journal_in first) (journal_in bytes)) (sym (sure_now (did.ran.to.still open_end).0 image left))
             (subst (λ (bytes : List ℕ). KeepsJournal (event_lines (names_of ran.job) programs number taken (desk first)) (journal_in bytes) (journal_in (held_of G after))) held kept);
       }

@@ -1,5 +1,5 @@
 -- From what the words without a file did on an outside to what they handed to the screen behind it.
-use Rattle.file_runs.proofs.Common.{◌≡◌, inl, inr, ⊎_elim, ℕ, ◌≤◌, List, [], length, min, ap, ◌∙◌, subst, IsSome, Option, None, Some, Result, Prints, held_of, ◌*◌, ◌++◌, Ghosts, Failed, Desk, Line, serial_lines, event_lines, IsRunOf, run, SessionState, Given, call, IsFaultAt, Status, Happened, Refused, job_desk, Deed, printed_of, Hands, IsBehind, AuditedOnScreen, AuditsBy, DrilledJob, DrilledOnScreen, DrillsBy, HandsDrill, HandsLoad, HandsStops, ListedOnScreen, LoadedOnScreen, TracedOnScreen, TracesBy, TriedOnScreen, begun, IsSerial}
+use Rattle.file_runs.proofs.Common.{◌≡◌, inl, inr, ⊎_elim, ℕ, ◌≤◌, List, [], length, min, ap, ◌∙◌, subst, IsSome, Option, None, Some, Result, Prints, held_of, ◌*◌, ◌++◌, Ghosts, Failed, Desk, ReportLine, serial_lines, event_lines, IsRunOf, run, SessionState, Given, call, IsFaultAt, Status, Happened, Refused, job_desk, Deed, printed_of, Hands, IsBehind, AuditedOnScreen, AuditsBy, DrilledJob, DrilledOnScreen, DrillsBy, HandsDrill, HandsLoad, HandsStops, ListedOnScreen, LoadedOnScreen, TracedOnScreen, TracesBy, TriedOnScreen, begun, IsSerial}
 use Rattle.desk.specs.declared.event.Event.{Event}
 use Rattle.job_text.specs.declared.job.Job.{Job}
 use Rattle.call_status.specs.Statuses.{WentThrough}
@@ -88,9 +88,9 @@ module _ {W : Type 0} (G : Ghosts W) (before after : W) (first : List ℕ) (puts
                 is_run = subst (λ (bytes : List ℕ). IsRunOf programs job.events.items (desk bytes) taken []) held with_rest;
                 order_is = did.ran.order_is ∙ ap (λ (end : Desk). end.order) did.ran.end_is ∙ ap (λ (bytes : List ℕ). (run programs taken (desk bytes)).order) held;
                 names = names;
-                serial_run = subst (λ (lines : List Line). IsSerial acts number store order lines (run programs taken (desk first)).committed (run programs taken (desk first)).closed) is_lines with_end;
-                handed = subst (λ (lines : List Line). Hands puts (line_for transfers lines) end) is_lines (handed G before after first puts behind _ end (did.told past));
-                last = subst (λ (lines : List Line). last_out lines ≡ last_out (serial_lines acts number order store)) is_lines (did.last past);
+                serial_run = subst (λ (lines : List ReportLine). IsSerial acts number store order lines (run programs taken (desk first)).committed (run programs taken (desk first)).closed) is_lines with_end;
+                handed = subst (λ (lines : List ReportLine). Hands puts (line_for transfers lines) end) is_lines (handed G before after first puts behind _ end (did.told past));
+                last = subst (λ (lines : List ReportLine). last_out lines ≡ last_out (serial_lines acts number order store)) is_lines (did.last past);
               },
         )
 

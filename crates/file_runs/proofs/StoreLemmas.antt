@@ -1,5 +1,5 @@
 -- From what the words on a store did on an outside to what they did on the file and the screen behind it.
-use Rattle.file_runs.proofs.Common.{◌≡◌, ◌⊎◌, ℕ, ◌<◌, List, [], length, ap, sym, ◌∙◌, subst, IsSome, Torn, held_of, Ghosts, Given, call, Status, IsNoStore, IsStored, Written, WrittenBy, Deed, AreBehind, LeavesLast, inl, inr, ⊎_elim, stands, IsFaultAt, printed_of, arith, AreTold, Option, Some, IsSure, OnlyAsks, FlatStore, Standing, Stands, RunsFrom}
+use Rattle.file_runs.proofs.Common.{◌≡◌, ◌⊎◌, ℕ, ◌<◌, List, [], length, ap, sym, ◌∙◌, subst, IsSome, Torn, held_of, Ghosts, Given, call, Status, IsNoStore, IsStored, Written, WrittenBy, Deed, AreBehind, LeavesLast, inl, inr, ⊎_elim, stands, IsFaultAt, printed_of, arith, AreTold, Option, Some, IsSure, OnlyAsks, FlatStore, Standing, Stands, FromAnyStore}
 use Rattle.call_status.specs.declared.status.Status.TheVariants as status
 use Rattle.store_calls.specs.Renewed.{IsRenewed, Renewed}
 use Rattle.file_runs.specs.FileMade.{RenewedOnFile, WritesBy, WroteWidened, WrittenOnFile}
@@ -7,13 +7,13 @@ use Rattle.file_runs.proofs.FileLemmas.{handed, held_is, leaves_always, nothing,
 use Rattle.store_calls.specs.Show.{HasNoRange, HasRange, PrintsRows, RangeShown}
 use Rattle.store_calls.specs.declared.show.Range.{Range}
 use Rattle.standby.specs.ShipCalled.{IsNotKept, PutsText, ShippedFrom}
-use Rattle.file_runs.specs.FileShown.{HandsRecords, HandsRows, HasNoSuch, KeepsTooFew, ShipsBy, ShippedOnFile, ShownOnFile, ShowsBy}
+use Rattle.file_runs.specs.FileShown.{HandsRecords, HandsRows, HasNoSuch, KeepsTooFew, FileShipsBy, ShippedOnFile, ShownOnFile, ShowsBy}
 use Rattle.store_format.proofs.Sound.{stood_header}
 use Rattle.standby.specs.Followed.{IsAtNumber, followed_text, kept_text, well}
 use Rattle.standby.specs.State.{due}
-use Rattle.standby.specs.Text.{Content, later}
+use Rattle.standby.specs.Text.{ShipContent, later}
 use Rattle.standby.proofs.TellLemmas.{at_some}
-use Rattle.standby.specs.FollowCalled.{EndsOn, FollowedFrom, FollowsOn, IsDue, IsRefusal, OnStore}
+use Rattle.standby.specs.FollowCalled.{EndsOn, FollowedFrom, FollowsOn, IsDue, IsUncommitted, OnStore}
 use Rattle.file_runs.specs.FileFollowed.{EndsAt, FollowedOnFile, FollowedText, FollowsBy, IsAfter, IsDueAt}
 
 module _ {W : Type 0} (G : Ghosts W) (before after : W) (first : List ℕ) (deeds puts : List Deed) (behind : AreBehind G before after first deeds puts) where
@@ -122,7 +122,7 @@ module _ {W : Type 0} (G : Ghosts W) (before after : W) (first : List ℕ) (deed
         let there : KeepsTooFew from (held_of G before) base number = record { store = its.store; shows = its.shows; base_is = its.base_is; number_is = its.number_is; few = its.behind_all } in
         subst (λ (bytes : List ℕ). KeepsTooFew from bytes base number) same there
 
-    ships_by : (order : List (ℕ × ℕ)) (end : Status) → ShippedFrom G from (call before after order end) → ShipsBy from first puts end
+    ships_by : (order : List (ℕ × ℕ)) (end : Status) → ShippedFrom G from (call before after order end) → FileShipsBy from first puts end
     ships_by order status.Done did = records status.Done did.by_status
     ships_by order status.PutFault did = records status.PutFault did.by_status
     ships_by order status.DiskFault did = ⊎_elim (λ unchanged. inl (none unchanged)) (λ has. inr (records status.DiskFault has)) did.by_status
@@ -138,7 +138,7 @@ module _ {W : Type 0} (G : Ghosts W) (before after : W) (first : List ℕ) (deed
   stand_last : (stood : Standing) → IsSure G after → stands (held_of G after) ≡ stood → LeavesLast first deeds (λ image. stands image ≡ stood)
   stand_last stood sure are left is_left = ap stands (sure_now G before after first deeds puts behind sure left is_left) ∙ are
 
-  module _ (content : Content) where
+  module _ (content : ShipContent) where
     -- the bytes that the file gave stand for the start
     at_start : (number : ℕ) (store : FlatStore) (image : List ℕ) → stands first ≡ Stands number store → image ≡ first → IsAfter content number store 0 image
     at_start number store image stood is =
@@ -157,7 +157,7 @@ module _ {W : Type 0} (G : Ghosts W) (before after : W) (first : List ℕ) (deed
         (0, ap printed_of asked.unput, λ left is_left. (0, omega arith, omega arith, at_start number store left stood (asked.keeps.kept (length deeds) left (omega arith) is_left)))
     ends_at number store _ stood did = tt
 
-    follows_on : (end : Status) → FollowsOn G content before after end → RunsFrom first (λ number store. FollowedText content number store first deeds puts end)
+    follows_on : (end : Status) → FollowsOn G content before after end → FromAnyStore first (λ number store. FollowedText content number store first deeds puts end)
     follows_on end did number store stood =
         let its = did number store (stands_at G before after first puts behind.screen number store stood) in
         let records = due content number in
@@ -178,7 +178,7 @@ module _ {W : Type 0} (G : Ghosts W) (before after : W) (first : List ℕ) (deed
         let there : IsDueAt content (held_of G before) end = record { store = its.store; shows = its.shows; due_on = its.due_on } in
         subst (λ (bytes : List ℕ). IsDueAt content bytes end) same there
 
-    follows_by : (end : Status) → (IsRefusal end → OnlyAsks G before after) → OnStore G content before after end → FollowsBy content first deeds puts end
+    follows_by : (end : Status) → (IsUncommitted end → OnlyAsks G before after) → OnStore G content before after end → FollowsBy content first deeds puts end
     follows_by status.Done refused did = (is_due status.Done did.0, follows_on status.Done did.1)
     follows_by status.PutFault refused did = (is_due status.PutFault did.0, follows_on status.PutFault did.1)
     follows_by status.DiskFault refused did =

@@ -3,8 +3,8 @@ use Rattle.file_runs.proofs.Common.{◌≡◌, ℕ, List, Ghosts, Given, new_lin
 use Rattle.desk.specs.Answers.{order_told}
 use Rattle.job_calls.specs.declared.ended.Ended.{Ended}
 use Rattle.console.specs.Did.{Does}
-use Rattle.console.specs.declared.words.Command.{Command}
-use Rattle.console.specs.declared.words.Command.TheVariants as command
+use Rattle.console.specs.declared.command_words.Command.{Command}
+use Rattle.console.specs.declared.command_words.Command.TheVariants as command
 use Rattle.store_format.specs.Header.{fresh}
 use Rattle.file_runs.proofs.FileLemmas.{run_on_file}
 use Rattle.file_runs.proofs.ScreenLemmas.{audit_on_screen, drill_on_screen, list_on_screen, load_on_screen, trace_on_screen, try_on_screen}

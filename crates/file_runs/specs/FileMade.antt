@@ -2,7 +2,7 @@
 use Rattle.std.specs.Prelude.{◌≡◌, ℕ, ◌<◌, ◌⊎◌, List, [], length}
 use Rattle.file_runs.specs.Below.{Deed, FlatStore, Given, IsAll, IsNoStore, printed_of, Stands, stands, Status, Torn}
 use Rattle.call_status.specs.declared.status.Status.TheVariants as status
-use Rattle.store_calls.specs.Renewed.{IsNoOne, renew_line, renewed_image, standing_as_one, widened}
+use Rattle.store_calls.specs.Renewed.{IsNoOne, renew_line, renewed_image, standing_as_one, store_widened}
 use Rattle.file_runs.specs.FileRun.{Hands, LeavesAlways, LeavesLast, OnlyAsked}
 
 -- How writing an image and then a line ended: the file gave no bytes, and the image is left and nothing else; or a call of the file failed, and nothing was
@@ -32,7 +32,7 @@ pub record WroteWidened (bank : ℕ) (given : Given) (first : List ℕ) (deeds p
   pub number : ℕ
   pub store : FlatStore
   pub stood : standing_as_one text ≡ Stands number store
-  pub stands : stands (renewed_image bank number store) ≡ Stands number (widened store)
+  pub stands : stands (renewed_image bank number store) ≡ Stands number (store_widened store)
   pub written : WrittenOnFile (renewed_image bank number store) (renew_line (length (renewed_image bank number store)) number) first deeds puts end
 
 -- what `renew` did, by its end: where the source had no such store, nothing was asked of the file and the screen

@@ -1,6 +1,6 @@
 -- What a run left of a file and a screen, in the words of what was asked of them.
 use Rattle.std.specs.Prelude.{◌≡◌, ℕ, ◌+◌, ◌≤◌, false, List, [], length, take, count_by, All, Option, None, Some, Result, Ok, IsTrue}
-use Rattle.file_runs.specs.Below.{begun, ByOpening, content_of, Deed, Event, event_lines, Failed, FlatStore, Given, images_at, is_write, IsFaultAt, IsRunOf, IsSerial, IsWhole, Job, job_desk, job_of, marks_of, names_of, printed_of, Prints, put_by, report, run, SessionState, Stands, stands, Status, Synced, Tore, Unsynced, Word, Wrote}
+use Rattle.file_runs.specs.Below.{begun, ByOpening, content_of, Deed, Event, event_lines, Failed, FlatStore, Given, file_images_at, deed_writes, IsFaultAt, IsRunOf, IsSerial, IsWholeText, Job, job_desk, job_of, marks_of, names_of, printed_of, Prints, put_by, report, run, SessionState, Stands, stands, Status, Synced, Tore, Unsynced, DiskWord, Wrote}
 use Rattle.outside.specs.declared.world.Outside.{Ghosts}
 use Rattle.outside.specs.Clock.{shown_by}
 use Rattle.real_files.specs.Shown.{LeftBy}
@@ -20,15 +20,15 @@ pub record IsSeenAt (puts : List Deed) (deeds : ℕ) (seen : List ℕ) : Type 0 
 
 -- The machine may stop after any number of the deeds: each image that these may leave, with what may have been seen by then, has this.
 abbrev pub LeavesAt : (first : List ℕ) (deeds puts : List Deed) → (List ℕ → List ℕ → Type 0) → Type 0
-LeavesAt first deeds puts P = (done : ℕ) (image seen : List ℕ) → done ≤ length deeds → images_at first deeds done image → IsSeenAt puts done seen → P image seen
+LeavesAt first deeds puts P = (done : ℕ) (image seen : List ℕ) → done ≤ length deeds → file_images_at first deeds done image → IsSeenAt puts done seen → P image seen
 
 -- so has each image that any number of the deeds may leave
 abbrev pub LeavesAlways : (first : List ℕ) (deeds : List Deed) → (List ℕ → Type 0) → Type 0
-LeavesAlways first deeds P = (done : ℕ) (image : List ℕ) → done ≤ length deeds → images_at first deeds done image → P image
+LeavesAlways first deeds P = (done : ℕ) (image : List ℕ) → done ≤ length deeds → file_images_at first deeds done image → P image
 
 -- and each that all of them may leave
 abbrev pub LeavesLast : (first : List ℕ) (deeds : List Deed) → (List ℕ → Type 0) → Type 0
-LeavesLast first deeds P = (image : List ℕ) → images_at first deeds (length deeds) image → P image
+LeavesLast first deeds P = (image : List ℕ) → file_images_at first deeds (length deeds) image → P image
 
 -- a deed that changes nothing: a sync, or a failed write of no bytes
 abbrev pub IsQuiet : Deed → Type 0
@@ -55,11 +55,11 @@ Hands puts text end = PrintsBy (Some []) (Some (printed_of puts)) text end
 pub record RanOnScreen (given : Given) (number : ℕ) (store : FlatStore) (first : List ℕ) (puts : List Deed) (order : List (ℕ × ℕ)) (end : Status) : Type 0 where
   -- the text that the source gave means a job
   pub text : List ℕ
-  pub whole : IsWhole given.left given.left_now text
+  pub whole : IsWholeText given.left given.left_now text
   pub job : Job
   pub means : job_of text ≡ Ok (content_of job)
   -- there is one run of the desk over the first of its events, from that store, and these are its commits
-  pub taken : List (Event × Word)
+  pub taken : List (Event × DiskWord)
   pub rest : List Event
   pub is_run : IsRunOf job.programs.items job.events.items (job_desk job first store) taken rest
   pub order_is : order ≡ (run job.programs.items taken (job_desk job first store)).order
@@ -82,19 +82,19 @@ pub record RanOnFile (given : Given) (number : ℕ) (store : FlatStore) (first :
       → LeavesLast first deeds (λ image. KeepsJournal (event_lines (names_of ran.job) ran.job.programs.items number ran.taken (job_desk ran.job first store)) (journal_in first) (journal_in image))
 
 -- this holds from whatever number and store the bytes stand for
-abbrev pub RunsFrom : List ℕ → (ℕ → FlatStore → Type 0) → Type 0
-RunsFrom first P = (number : ℕ) (store : FlatStore) → stands first ≡ Stands number store → P number store
+abbrev pub FromAnyStore : List ℕ → (ℕ → FlatStore → Type 0) → Type 0
+FromAnyStore first P = (number : ℕ) (store : FlatStore) → stands first ≡ Stands number store → P number store
 
 -- the bytes stand for no number and store
 abbrev pub StandsForNone : List ℕ → Type 0
-StandsForNone first = RunsFrom first (λ number store. ⊥)
+StandsForNone first = FromAnyStore first (λ number store. ⊥)
 
 -- What `run` did, by its end: the job was run, or no event was, and the file was only asked; an event may end in a disk fault, and so may the opening.
 abbrev pub RunsOnFile : Given → (first : List ℕ) (deeds puts : List Deed) (order : List (ℕ × ℕ)) → Option SessionState → (end : Status) → Type 0
-RunsOnFile given first deeds puts order session status.Done = RunsFrom first (λ number store. RanOnFile given number store first deeds puts order status.Done)
-RunsOnFile given first deeds puts order session status.PutFault = RunsFrom first (λ number store. RanOnFile given number store first deeds puts order status.PutFault)
+RunsOnFile given first deeds puts order session status.Done = FromAnyStore first (λ number store. RanOnFile given number store first deeds puts order status.Done)
+RunsOnFile given first deeds puts order session status.PutFault = FromAnyStore first (λ number store. RanOnFile given number store first deeds puts order status.PutFault)
 RunsOnFile given first deeds puts order session status.DiskFault =
-    ByOpening session (RunsFrom first (λ number store. RanOnFile given number store first deeds puts order status.DiskFault)) (OnlyAsked first deeds puts)
+    ByOpening session (FromAnyStore first (λ number store. RanOnFile given number store first deeds puts order status.DiskFault)) (OnlyAsked first deeds puts)
 RunsOnFile given first deeds puts order session (status.Store offset) = ByOpening session (StandsForNone first) (OnlyAsked first deeds puts × IsFaultAt first offset)
 RunsOnFile given first deeds puts order session _ = OnlyAsked first deeds puts
 
@@ -118,6 +118,6 @@ pub record AreBehind {W : Type 0} (G : Ghosts W) (before after : W) (first : Lis
   pub moment : G.moment before ≡ begun_by first
   pub calls : (G.moment after).calls ≡ length deeds
   pub unwritten : G.writes before ≡ Some 0
-  pub writes : G.writes after ≡ Some (count_by is_write deeds)
+  pub writes : G.writes after ≡ Some (count_by deed_writes deeds)
   pub since : (t : Moment) (image seen : List ℕ) → LeftBy first deeds puts t image seen → G.left_since after t image seen
-  pub now : (image : List ℕ) → images_at first deeds (length deeds) image → (seen : List ℕ) × G.left_since after (G.moment after) image seen
+  pub now : (image : List ℕ) → file_images_at first deeds (length deeds) image → (seen : List ℕ) × G.left_since after (G.moment after) image seen

@@ -1,7 +1,7 @@
 -- What each word left of a file and a screen.
 use Rattle.std.specs.Prelude.{List, ℕ}
 use Rattle.file_runs.specs.Below.{Command, Deed, Ended, Given, new_line, order_told}
-use Rattle.console.specs.declared.words.Command.TheVariants as command
+use Rattle.console.specs.declared.command_words.Command.TheVariants as command
 use Rattle.store_format.specs.Header.{fresh}
 use Rattle.file_runs.specs.FileFollowed.{FollowedOnFile}
 use Rattle.file_runs.specs.FileMade.{RenewedOnFile, WrittenOnFile}

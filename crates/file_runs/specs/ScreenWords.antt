@@ -1,6 +1,6 @@
 -- What the words without a file handed to the screen: their disk is one in memory.
 use Rattle.std.specs.Prelude.{◌≡◌, ◌⊎◌, ◌++◌, ◌*◌, ◌≤◌, ℕ, List, [], min, length, Option, Some, Result, Ok}
-use Rattle.file_runs.specs.Below.{begun, ByOpening, Command, content_of, Deed, Ended, Event, event_lines, Failed, FlatStore, Given, IsFaultAt, IsRunOf, IsSerial, IsWhole, Job, job_desk, job_of, order_told, printed_of, Prints, run, serial_lines, SessionState, Status, Word}
+use Rattle.file_runs.specs.Below.{begun, ByOpening, Command, content_of, Deed, Ended, Event, event_lines, Failed, FlatStore, Given, IsFaultAt, IsRunOf, IsSerial, IsWholeText, Job, job_desk, job_of, order_told, printed_of, Prints, run, serial_lines, SessionState, Status, DiskWord}
 use Rattle.job_text.specs.Big.{IsBigJob}
 use Rattle.job_text.specs.Grammar.{Content}
 use Rattle.serial_audit.specs.declared.answer.Trace.{Trace}
@@ -11,15 +11,15 @@ use Rattle.store_calls.specs.Audited.{IsChecked, IsUnchecked, verdict_line}
 use Rattle.store_calls.specs.Bundled.{WithBundle}
 use Rattle.store_calls.specs.Traced.{IsTraced, IsUntraced, trace_lines}
 use Rattle.drills.specs.Drilled.{AreStops, broken, last_line, stop_lines, try_order, well}
-use Rattle.drills.specs.declared.drill.Pair.{Pair}
+use Rattle.drills.specs.declared.drill.StopPair.{StopPair}
 use Rattle.console.specs.Listed.{listings_of}
-use Rattle.console.specs.declared.words.Command.TheVariants as command
-use Rattle.file_runs.specs.FileRun.{Hands, RanOnScreen, RunsFrom, StandsForNone}
+use Rattle.console.specs.declared.command_words.Command.TheVariants as command
+use Rattle.file_runs.specs.FileRun.{Hands, RanOnScreen, FromAnyStore, StandsForNone}
 
 -- The source gave the text of a job, whole, and the listings of its programs were handed to the screen.
 pub record HandsListings (given : Given) (puts : List Deed) (end : Status) : Type 0 where
   pub text : List ℕ
-  pub whole : IsWhole given.left given.left_now text
+  pub whole : IsWholeText given.left given.left_now text
   pub content : Content
   pub means : job_of text ≡ Ok content
   pub handed : Hands puts (listings_of content) end
@@ -69,16 +69,16 @@ TracedOnScreen activation given puts end = WithBundle given (puts ≡ []) (λ te
 
 -- what `try` did on a disk that held these bytes, by its end: the job was run, or no event was, and nothing was handed to the screen
 abbrev pub TriedOnScreen : Given → (first : List ℕ) (puts : List Deed) (order : List (ℕ × ℕ)) → Option SessionState → (end : Status) → Type 0
-TriedOnScreen given first puts order session status.Done = RunsFrom first (λ number store. RanOnScreen given number store first puts order status.Done)
-TriedOnScreen given first puts order session status.PutFault = RunsFrom first (λ number store. RanOnScreen given number store first puts order status.PutFault)
-TriedOnScreen given first puts order session status.DiskFault = ByOpening session (RunsFrom first (λ number store. RanOnScreen given number store first puts order status.DiskFault)) (puts ≡ [])
+TriedOnScreen given first puts order session status.Done = FromAnyStore first (λ number store. RanOnScreen given number store first puts order status.Done)
+TriedOnScreen given first puts order session status.PutFault = FromAnyStore first (λ number store. RanOnScreen given number store first puts order status.PutFault)
+TriedOnScreen given first puts order session status.DiskFault = ByOpening session (FromAnyStore first (λ number store. RanOnScreen given number store first puts order status.DiskFault)) (puts ≡ [])
 TriedOnScreen given first puts order session (status.Store offset) = ByOpening session (StandsForNone first) ((puts ≡ []) × IsFaultAt first offset)
 TriedOnScreen given first puts order session _ = puts ≡ []
 
 -- The job of a load was run to its end on a disk that held these bytes, which stood for this number and this store, and its line was handed to the screen.
 pub record RanLoad (transfers : ℕ) (job : Job) (number : ℕ) (store : FlatStore) (first : List ℕ) (puts : List Deed) (order : List (ℕ × ℕ)) (end : Status) : Type 0 where
   -- there is one run of the desk over its events, from that store, and these are its commits, those of its activations one after another
-  pub taken : List (Event × Word)
+  pub taken : List (Event × DiskWord)
   pub is_run : IsRunOf job.programs.items job.events.items (job_desk job first store) taken []
   pub order_is : order ≡ (run job.programs.items taken (job_desk job first store)).order
   pub names : List (List ℕ)
@@ -90,7 +90,7 @@ pub record RanLoad (transfers : ℕ) (job : Job) (number : ℕ) (store : FlatSto
 
 -- so from whatever number and store the bytes stand for
 abbrev pub HandsLoad : (transfers : ℕ) (first : List ℕ) (puts : List Deed) (order : List (ℕ × ℕ)) (end : Status) → Type 0
-HandsLoad transfers first puts order end = (job : Job) × IsBigJob transfers job × RunsFrom first (λ number store. RanLoad transfers job number store first puts order end)
+HandsLoad transfers first puts order end = (job : Job) × IsBigJob transfers job × FromAnyStore first (λ number store. RanLoad transfers job number store first puts order end)
 
 -- what `big` did, by its end; other ends don't come
 abbrev pub LoadedOnScreen : (transfers : ℕ) (first : List ℕ) (puts : List Deed) (order : List (ℕ × ℕ)) (end : Status) → Type 0
@@ -103,13 +103,13 @@ LoadedOnScreen transfers first puts order _ = ⊥
 
 -- The lines of stops of the job, numbered from write 1 on, were handed to the screen, or a first part where a put failed.
 pub record HandsStops (job : Job) (puts : List Deed) (put : Result (Unit {0}) Failed) : Type 0 where
-  pub pairs : List Pair
+  pub pairs : List StopPair
   pub stops : AreStops job pairs
   pub printed : Prints (Some []) (Some (printed_of puts)) (stop_lines 1 pairs) put
 
 -- And the last line, which tells at how many writes: at no fewer than two for each commit, or at 256; and how many commits the job has.
 pub record HandsDrill (job : Job) (puts : List Deed) (put : Result (Unit {0}) Failed) : Type 0 where
-  pub pairs : List Pair
+  pub pairs : List StopPair
   pub stops : AreStops job pairs
   pub enough : min 256 (2 * length (try_order job)) ≤ length pairs
   pub printed : Prints (Some []) (Some (printed_of puts)) (stop_lines 1 pairs ++ last_line (length pairs) (length (try_order job))) put
@@ -124,7 +124,7 @@ DrillsBy job puts _ = ⊥
 -- The source gave the text of a job, whole, which was drilled.
 pub record DrilledJob (given : Given) (puts : List Deed) (end : Status) : Type 0 where
   pub text : List ℕ
-  pub whole : IsWhole given.left given.left_now text
+  pub whole : IsWholeText given.left given.left_now text
   pub job : Job
   pub means : job_of text ≡ Ok (content_of job)
   pub drills : DrillsBy job puts end

@@ -1,6 +1,6 @@
 //! The console on a file and a screen: what it did, in the words of what was asked of these two.
 #![tactic(auto)]
 
-mod command;
+mod on_file;
 
-pub use command::{console_on_file, console_on_screen};
+pub use on_file::{console_on_file, console_on_screen};

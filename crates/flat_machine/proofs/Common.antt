@@ -11,7 +11,7 @@ pub use Rattle.byteorder.specs.Endian.{big_bytes, big_number}
 pub use Rattle.byteorder.specs.Numbers.{length-bytes_high_first}
 pub use Rattle.lines.proofs.WithinLemmas.{line-below, line-bytes-pos, segment-within}
 pub use Rattle.lines.specs.Directory.{Layout, byte_count, is_fine_page, length_of, start_of}
-pub use Rattle.lines.specs.FlatStore.{FlatStore, IsWhole}
+pub use Rattle.lines.specs.FlatStore.{FlatStore, IsWholeStore}
 pub use Rattle.lines.specs.declared.line_geometry.PageSize.TheVariants.{Two}
 pub use Rattle.lines.proofs.SetLemmas.{has-append, has-range, has_left, has_right, in_range}
 pub use Rattle.lines.specs.Conflicts.{Lines, both, no_lines, with_whole_pages}
@@ -21,7 +21,7 @@ pub use Rattle.lines.specs.Overlay.{overlaid}
 unfoldable pub use Rattle.romp_table.specs.Decode.{row_numbered}
 pub use Rattle.flat_machine.specs.Access.{LiesWithin}
 pub use Rattle.flat_machine.specs.After.{after, clear, next_state, start}
-pub use Rattle.flat_machine.specs.Agreement.{AgreeBut, AgreeOn, AgreementIsEnough, DoesTheSame, SameWay, all_of, line_in}
+pub use Rattle.flat_machine.specs.Agreement.{AgreeBut, AgreeOn, AgreementIsEnough, DoesTheSame, SameWay, all_of, flat_line}
 pub use Rattle.flat_machine.specs.Effect.{fill_words, filled}
 pub use Rattle.flat_machine.specs.Row.{Check, Commit, On, Outcome, acts, halfword, in_register, in_segment, in_window, loads, located, moved, plan_at, row, row_by, stored_bytes, stores, with_link}
 pub use Rattle.flat_machine.specs.Serial.{Activation, before_commit, committing, if_commit, numbered, serial}

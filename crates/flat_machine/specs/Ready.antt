@@ -6,7 +6,7 @@ use Rattle.flat_machine.specs.declared.machine.Act.{Act}
 use Rattle.flat_machine.specs.declared.ready.Doing.{Doing}
 use Rattle.flat_machine.specs.declared.ready.Ready.{Ready}
 use Rattle.flat_machine.specs.Plans.{Plan, Does, Work, Put, Signed, Sum, Compare, Want}
-use Rattle.flat_machine.specs.Words.{is_negative, extended, complement, biased, shifted_left, shifted_right, shifted_signed, bit, sum_of, difference}
+use Rattle.flat_machine.specs.Words.{is_negative, extended, complement, biased, shifted_left, shifted_right, shifted_signed, bit, sum_of, word_difference}
 use Rattle.flat_machine.specs.Work.{base, loads_byte, loads_half, loads_words, stores_byte, stores_half, stores_words, traps, is_masked, work_of_r}
 use Rattle.flat_machine.specs.Branches.{condition, even, branch_to}
 use Rattle.flat_machine.specs.Effect.{worked}
@@ -43,7 +43,7 @@ work_of_two Doing.Subtract cs b x y z i = Sum b x (complement y) 1
 work_of_two Doing.SubtractCarry cs b x y z i = Sum b x (complement y) (bit cs.c0)
 work_of_two Doing.SubtractFrom cs b x y z i = Sum b y (complement x) 1
 work_of_two Doing.Negate cs b x y z i = Sum b 0 (complement y) 1
-work_of_two Doing.Magnitude cs b x y z i = Signed b (if is_negative y then difference 0 y else y)
+work_of_two Doing.Magnitude cs b x y z i = Signed b (if is_negative y then word_difference 0 y else y)
 work_of_two Doing.Invert cs b x y z i = Signed b (complement y)
 work_of_two Doing.Extend cs b x y z i = Signed b (extended 16 (y % 65536))
 work_of_two Doing.And cs b x y z i = Signed b (bit_and x y)
@@ -62,7 +62,7 @@ work_of_two doing cs b x y z i = access_made doing b (sum_of z i 0) y
 abbrev pub work_made : Doing → List ℕ → Cs → (b x y z i : ℕ) → Work
 work_made Doing.Take r cs b x y z i = Put b i
 work_made Doing.Increase r cs b x y z i = Put b (sum_of y i 0)
-work_made Doing.Decrease r cs b x y z i = Put b (difference y i)
+work_made Doing.Decrease r cs b x y z i = Put b (word_difference y i)
 work_made Doing.Address r cs b x y z i = Put b (sum_of z i 0)
 work_made Doing.AddressOfTwo r cs b x y z i = Put b (sum_of (slice_index r (i % 16)) z 0)
 work_made Doing.AddOperand r cs b x y z i = Sum b y i 0
@@ -125,14 +125,14 @@ GoesOn doing =
     ≡ plan_alone (worked registers status (work_made doing registers status row.b (slice_index registers row.b) (slice_index registers row.c) (base registers row.c) row.i)) after
 
 -- a row made ready of an instruction of as many bytes: it comes to what the instruction is to do
-abbrev pub IsOf : Ready → Inst → (iar : ℕ) → Type 0
-IsOf row inst iar =
+abbrev pub IsReadyOf : Ready → Inst → (iar : ℕ) → Type 0
+IsReadyOf row inst iar =
     (halfword_at : ℕ → Option ℕ) (registers : List ℕ) (status : Cs)
     → plan_of halfword_at inst row.bytes registers status iar ≡ done row registers status iar
 
 -- a row made ready of two halfwords at an address: where they stand there, it comes to what the plan says; the second counts where it has one
-abbrev pub IsRowOf : Ready → (first second iar : ℕ) → Type 0
-IsRowOf row first second iar =
+abbrev pub IsReadyRowOf : Ready → (first second iar : ℕ) → Type 0
+IsReadyRowOf row first second iar =
     (halfword_at : ℕ → Option ℕ) (registers : List ℕ) (status : Cs)
     → halfword_at iar ≡ Some first → (has_second row ≡ true → halfword_at (iar + 2) ≡ Some second)
     → plan halfword_at registers status iar ≡ done row registers status iar
@@ -143,11 +143,11 @@ pub record IsReadyAt (row : Ready) (halfword_at : ℕ → Option ℕ) (iar : ℕ
   pub second : ℕ
   pub at_first : halfword_at iar ≡ Some first
   pub at_second : has_second row ≡ true → halfword_at (iar + 2) ≡ Some second
-  pub of_row : IsRowOf row first second iar
+  pub of_row : IsReadyRowOf row first second iar
 
 -- a row made ready of an instruction of so many bytes at an address
 pub record IsMade (inst : Inst) (count iar : ℕ) (row : Ready) : Type 0 where
-  pub value : IsOf row inst iar
+  pub value : IsReadyOf row inst iar
   pub bytes : row.bytes ≡ count
 
 -- what does what a branch or jump by a condition does, whatever its operand

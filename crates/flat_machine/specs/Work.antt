@@ -5,7 +5,7 @@ use Rattle.flat_machine.specs.Below.{Inst, Op}
 use Rattle.flat_machine.specs.declared.machine.Cs.{Cs}
 use Rattle.flat_machine.specs.declared.machine.Act.{Act}
 use Rattle.flat_machine.specs.Plans.{Work, Put, Signed, Sum, Compare, Want}
-use Rattle.flat_machine.specs.Words.{is_negative, extended, complement, biased, single_bit, shifted_left, shifted_right, shifted_signed, bit, sum_of, difference}
+use Rattle.flat_machine.specs.Words.{is_negative, extended, complement, biased, single_bit, shifted_left, shifted_right, shifted_signed, bit, sum_of, word_difference}
 
 -- the value of a base register, where field 0 means zero
 abbrev pub base : List ℕ → ℕ → ℕ
@@ -59,7 +59,7 @@ abbrev pub work_with_count : Op → (b k x : ℕ) → Work
 work_with_count Op.Ais b k x = Sum b x k 0
 work_with_count Op.Sis b k x = Sum b x (complement k) 1
 work_with_count Op.Inc b k x = Put b (sum_of x k 0)
-work_with_count Op.Dec b k x = Put b (difference x k)
+work_with_count Op.Dec b k x = Put b (word_difference x k)
 work_with_count Op.Lis b k x = Put b k
 work_with_count Op.Cis b k x = Compare (biased x) (biased k)
 work_with_count Op.Clrbu b k x = Signed b (bit_and x (complement (single_bit k)))
@@ -89,7 +89,7 @@ work_of_r Op.Cl b c x y cs = Compare x y
 work_of_r Op.C b c x y cs = Compare (biased x) (biased y)
 work_of_r Op.Tgte b c x y cs = traps (nat_le y x)
 work_of_r Op.Tlt b c x y cs = traps (nat_lt x y)
-work_of_r Op.Abs b c x y cs = Signed b (if is_negative y then difference 0 y else y)
+work_of_r Op.Abs b c x y cs = Signed b (if is_negative y then word_difference 0 y else y)
 work_of_r Op.Twoc b c x y cs = Sum b 0 (complement y) 1
 work_of_r Op.Onec b c x y cs = Signed b (complement y)
 work_of_r Op.O b c x y cs = Signed b (bit_or x y)

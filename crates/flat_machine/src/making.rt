@@ -6,7 +6,7 @@ ghost use Rattle.flat_machine.specs.declared.ready.Ready.{Ready};
 ghost use Rattle.flat_machine.specs.Branches.{branch_to, is_register_branch};
 ghost use Rattle.flat_machine.specs.Row.{plan_of_branch};
 ghost use Rattle.flat_machine.specs.Work.{work_of_r, work_of_d, work_of_s};
-ghost use Rattle.flat_machine.specs.Ready.{done_by, has_second, work_made, GoesOn, IsOf, IsRowOf, IsJump, IsMade, DoesTwo, DoesCount, MakesWork};
+ghost use Rattle.flat_machine.specs.Ready.{done_by, has_second, work_made, GoesOn, IsReadyOf, IsReadyRowOf, IsJump, IsMade, DoesTwo, DoesCount, MakesWork};
 
 use super::branches::target_of;
 use super::ready::{Doing, Ready};
@@ -25,7 +25,7 @@ impl Ready {
 /// The row of two halfwords at an address made ready, if it is one that is done in one go. The second counts for rows of four
 /// bytes alone.
 pub fn ready_of(first: u16, second: u16, iar: u32) -> Option<Ready>
-    ensures { IfSome result (λ row. IsRowOf row first second iar) }
+    ensures { IfSome result (λ row. IsReadyRowOf row first second iar) }
 {
     if length_of(first) == 2 {
         ready_instruction(&decode(first, 0)?, 2, iar)

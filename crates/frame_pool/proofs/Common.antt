@@ -17,16 +17,16 @@ pub use Rattle.lines.specs.Resident.{first_out, taken_out}
 pub use Rattle.lines.specs.Sets.{has}
 pub use Rattle.lines.proofs.OverlayLemmas.{length-overlaid}
 pub use Rattle.lines.specs.Overlay.{overlaid}
-pub use Rattle.frame_pool.specs.Places.{CameIn, Places, frame_of_index, index_out, left, place_of}
-pub use Rattle.frame_pool.specs.PlacesView.{places_of}
-pub use Rattle.frame_pool.specs.Pool.{Brought, emptied, frame_at, frame_bytes, gone, paging_after, laid, line_kept, line_laid, page_laid, marked_in, marks_at, page_at, page_out, with_bytes, with_marks, with_room}
+pub use Rattle.frame_pool.specs.Places.{CameIn, Places, frame_of_index, index_out, place_left, frame_of_page}
+pub use Rattle.frame_pool.specs.PlacesView.{pool_places}
+pub use Rattle.frame_pool.specs.Pool.{Brought, pool_emptied, frame_at, frame_bytes, gone, paging_after, kept_laid, line_kept, line_laid, page_laid, marked_in, marks_at, page_at, page_out, with_bytes, with_marks, with_room}
 pub use Rattle.frame_pool.specs.Seen.{IsSeen}
 pub use Rattle.frame_pool.specs.Sizes.{frame_count, line_place, line_size, private_frames}
-pub use Rattle.frame_pool.specs.Sound.{IsOfStore, IsPlaced, IsSized, IsSound, is_apart}
+pub use Rattle.frame_pool.specs.Sound.{IsOfStore, IsPlaced, IsSized, ArePlacesSound, is_apart}
 pub use Rattle.frame_pool.specs.Lending.{with_part}
 pub use Rattle.frame_pool.specs.PoolLending.{with_frame_part}
-pub use Rattle.frame_pool.specs.View.{HasSizes, shown}
-pub use Rattle.frame_pool.specs.declared.model.Pool.{Pool}
+pub use Rattle.frame_pool.specs.View.{PoolHasSizes, pool_shown}
+pub use Rattle.frame_pool.specs.declared.pool_model.Pool.{Pool}
 pub use Rattle.frame_pool.specs.declared.pool.FramePool.TheInside.{Inside}
 pub use Rattle.std.proofs.lemmas.Grind.{common_steps, same_number_lists}
 pub use Rattle.std.proofs.lemmas.List.Edits.{length-remove, get_or-remove_above}

@@ -1,5 +1,5 @@
 -- Lines of a page laid one after another, and the page laid at once.
-use Rattle.frame_pool.proofs.Common.{fold, slice_range, range_with_len, length-append, length-take-le, length-drop, append-nil, take-append-drop, drop-drop, take_at, overlaid, length-overlaid, PageSize, page_bytes, passing, lines_of_bits, Pool, line_size, line_place, frame_at, marks_at, line_laid, page_laid, line_kept, with_bytes, laid, IsSeen, nat_tests, ◌≡◌, ℕ, zero, suc, ◌+◌, ◌-◌, ◌*◌, ◌<◌, ◌≤◌, Some, List, [], ◌++◌, length, take, drop, refl, sym, ◌∙◌, ap, arith, append_assoc}
+use Rattle.frame_pool.proofs.Common.{fold, slice_range, range_with_len, length-append, length-take-le, length-drop, append-nil, take-append-drop, drop-drop, take_at, overlaid, length-overlaid, PageSize, page_bytes, passing, lines_of_bits, Pool, line_size, line_place, frame_at, marks_at, line_laid, page_laid, line_kept, with_bytes, kept_laid, IsSeen, nat_tests, ◌≡◌, ℕ, zero, suc, ◌+◌, ◌-◌, ◌*◌, ◌<◌, ◌≤◌, Some, List, [], ◌++◌, length, take, drop, refl, sym, ◌∙◌, ap, arith, append_assoc}
 use Rattle.std.proofs.Math.Seq.{take-add, drop-append-add, drop-append_seam}
 use Rattle.frame_pool.proofs.SoundLemmas.{page_part}
 use Rattle.frame_pool.proofs.PoolLemmas.{frame-part, frame_within}
@@ -122,7 +122,7 @@ page-laid page frame pool fits kept =
     ∙ ap (λ n. with_bytes pool (frame * size) (slice_range pool.kept (page * size) (page * size + n))) whole
 
 -- all lines of a page that is in a frame are laid, where all are marked
-laid-all : (page frame : ℕ) (pool : Pool) → frame_at pool page ≡ Some frame → range_with_len 0 16 ≡ marks_at pool page → fold (line_laid page frame) pool (range_with_len 0 16) ≡ laid pool page
+laid-all : (page frame : ℕ) (pool : Pool) → frame_at pool page ≡ Some frame → range_with_len 0 16 ≡ marks_at pool page → fold (line_laid page frame) pool (range_with_len 0 16) ≡ kept_laid pool page
 laid-all page frame pool there all = grind (arith, nat_tests)
 
 -- where all lines of a page are marked, nothing is left of what its frame was filled with
@@ -130,7 +130,7 @@ pub laid-anyway :
     (page frame : ℕ) (pool : Pool) (bytes : List ℕ) → frame_at pool page ≡ Some frame → range_with_len 0 16 ≡ marks_at pool page
     → length bytes ≡ page_bytes pool.page → frame * page_bytes pool.page + page_bytes pool.page ≤ length pool.bytes
     → page * page_bytes pool.page + page_bytes pool.page ≤ length pool.kept
-    → laid pool page ≡ laid (with_bytes pool (frame * page_bytes pool.page) bytes) page
+    → kept_laid pool page ≡ kept_laid (with_bytes pool (frame * page_bytes pool.page) bytes) page
 laid-anyway page frame pool bytes there all long fits kept =
     let size : ℕ = page_bytes pool.page in
     let part : List ℕ = slice_range pool.kept (page * size) (page * size + size) in
@@ -146,7 +146,7 @@ laid-anyway page frame pool bytes there all long fits kept =
 -- a page whose lines are all marked is laid at once
 pub whole-laid :
     (pool : Pool) (page frame : ℕ) → IsSeen pool → page < length pool.frame_of → frame_at pool page ≡ Some frame → range_with_len 0 16 ≡ marks_at pool page
-    → page_laid page frame pool ≡ laid pool page
+    → page_laid page frame pool ≡ kept_laid pool page
 whole-laid pool page frame seen inside there all =
     let kept : page * page_bytes pool.page + page_bytes pool.page ≤ length pool.kept = omega (arith, page_part page (length pool.frame_of) (page_bytes pool.page) inside, seen.kept) in
     sym (page-laid page frame pool (frame-part pool frame seen (frame_within pool page frame seen there)) kept) ∙ laid-all page frame pool there all

@@ -1,5 +1,5 @@
 -- What a step of the pool needs and leaves.
-use Rattle.frame_pool.proofs.Common.{◌≡◌, ℕ, zero, suc, ◌+◌, ◌*◌, ◌<◌, ◌≤◌, Bool, true, false, List, [], ◌∷◌, length, refl, arith, Some, None, All, vec_len, ◌==◌, not, nat_lt, position, find, remove, slice_index, slice_set, if◌then◌else◌, Option, unwrap_or, option_to_list, prefix_len, list_any, overlaid, nat_tests, All-from_get_or, position-Some, page_bytes, IsOfPage, has, first_out, taken_out, Inside, Pool, frame_count, Places, left, index_out, CameIn, places_of, HasSizes, IsSeen, IsOfStore, subst, is_apart, frame_at, page_at, marks_at, frame_bytes, paging_after, gone, page_out, with_room, Brought, emptied, shown}
+use Rattle.frame_pool.proofs.Common.{◌≡◌, ℕ, zero, suc, ◌+◌, ◌*◌, ◌<◌, ◌≤◌, Bool, true, false, List, [], ◌∷◌, length, refl, arith, Some, None, All, vec_len, ◌==◌, not, nat_lt, position, find, remove, slice_index, slice_set, if◌then◌else◌, Option, unwrap_or, option_to_list, prefix_len, list_any, overlaid, nat_tests, All-from_get_or, position-Some, page_bytes, IsOfPage, has, first_out, taken_out, Inside, Pool, frame_count, Places, place_left, index_out, CameIn, pool_places, PoolHasSizes, IsSeen, IsOfStore, subst, is_apart, frame_at, page_at, marks_at, frame_bytes, paging_after, gone, page_out, with_room, Brought, pool_emptied, pool_shown}
 use Rattle.lines.proofs.LineSetLemmas.{of_page-below}
 use Rattle.frame_pool.proofs.SoundLemmas.{first-apart, has-at, has-push_last, resident-in_frame, page-within, frame_of_store, page_part, none_room, index_out_below}
 
@@ -42,22 +42,22 @@ gone-from pool page frame there = grind (arith, nat_tests)
 -- the frame of the page at an index of the resident ones
 pub frame-at_index :
     (p : Inside) (index page frame : ℕ) → index < length p.places.resident.items → page ≡ slice_index p.places.resident.items index
-    → frame ≡ unwrap_or (frame_at (shown p) page) 0 → frame_at (shown p) page ≡ Some frame
-frame-at_index p index page frame below is found = grind (arith, nat_tests, resident-in_frame (places_of p.places) index p.places.sound below)
+    → frame ≡ unwrap_or (frame_at (pool_shown p) page) 0 → frame_at (pool_shown p) page ≡ Some frame
+frame-at_index p index page frame below is found = grind (arith, nat_tests, resident-in_frame (pool_places p.places) index p.places.sound below)
 
-pub frame_stored : (p : Inside) (page frame : ℕ) → frame_at (shown p) page ≡ Some frame → IsOfStore (places_of p.places) frame
-frame_stored p page frame there = frame_of_store (places_of p.places) page frame p.places.sound there
+pub frame_stored : (p : Inside) (page frame : ℕ) → frame_at (pool_shown p) page ≡ Some frame → IsOfStore (pool_places p.places) frame
+frame_stored p page frame there = frame_of_store (pool_places p.places) page frame p.places.sound there
 
-pub page_in_frame : (p : Inside) (page frame : ℕ) → page_at (shown p) frame ≡ Some page
+pub page_in_frame : (p : Inside) (page frame : ℕ) → page_at (pool_shown p) frame ≡ Some page
     → page < vec_len p.places.frame_of
 page_in_frame p page frame there =
-    omega (arith, page-within (places_of p.places) page frame (p.places.sound.placed.back page frame there), p.places.frame_of.ok.0)
+    omega (arith, page-within (pool_places p.places) page frame (p.places.sound.placed.back page frame there), p.places.frame_of.ok.0)
 
 -- what holds of every pool that is seen
-pub pool-seen : (p : Inside) → HasSizes p → IsSeen (shown p)
+pub pool-seen : (p : Inside) → PoolHasSizes p → IsSeen (pool_shown p)
 pool-seen p sizes = grind (arith, nat_tests)
 
-pub is_seen : (p : Inside) (pool : Pool) → HasSizes p → shown p ≡ pool → IsSeen pool
+pub is_seen : (p : Inside) (pool : Pool) → PoolHasSizes p → pool_shown p ≡ pool → IsSeen pool
 is_seen p pool sizes is = subst IsSeen is (pool-seen p sizes)
 
 -- the bytes of a frame
@@ -71,10 +71,10 @@ frame_within pool page frame seen there = seen.below page frame (seen.there page
 -- the pool after the page at an index of the resident ones left its frame
 pub left-gone :
     (p : Inside) (index page frame : ℕ) (after : Places) (kept : List ℕ) → index < length p.places.resident.items
-    → page ≡ slice_index p.places.resident.items index → frame_at (shown p) page ≡ Some frame
-    → after ≡ left (places_of p.places) index page frame → kept ≡ paging_after (shown p) page frame
-    → shown_with after p.bytes p.marked.items kept ≡ gone (shown p) page
-left-gone p index page frame after kept below is there places keeps = grind (arith, nat_tests, removed-taken p.places.resident.items index p.places.sound.placed.pages_apart below, gone-from (shown p) page frame there)
+    → page ≡ slice_index p.places.resident.items index → frame_at (pool_shown p) page ≡ Some frame
+    → after ≡ place_left (pool_places p.places) index page frame → kept ≡ paging_after (pool_shown p) page frame
+    → shown_with after p.bytes p.marked.items kept ≡ gone (pool_shown p) page
+left-gone p index page frame after kept below is there places keeps = grind (arith, nat_tests, removed-taken p.places.resident.items index p.places.sound.placed.pages_apart below, gone-from (pool_shown p) page frame there)
 
 -- where no element passes there is none at a place
 position-none : (test : ℕ → Bool) (xs : List ℕ) → length xs ≤ prefix_len (λ x. not (test x)) xs → list_any test xs ≡ false
@@ -85,7 +85,7 @@ pub not_resident : (xs : List ℕ) (page : ℕ) → position (λ other. other ==
 not_resident xs page none = grind (arith, nat_tests, position-none)
 
 -- a page that isn't resident has no frame, so it stays out
-pub gone_none : (p : Inside) (page : ℕ) → has p.places.resident.items page ≡ false → gone (shown p) page ≡ shown p
+pub gone_none : (p : Inside) (page : ℕ) → has p.places.resident.items page ≡ false → gone (pool_shown p) page ≡ pool_shown p
 gone_none p page absent = grind (arith, nat_tests)
 
 -- the first that passes, by its index
@@ -102,18 +102,18 @@ pub find-position : (test : ℕ → Bool) (xs : List ℕ) (i : ℕ) → position
 find-position test xs i is = let told = position-Some test xs i 0 is in find-first test xs i told.0 told.1 told.2
 
 -- the page that goes out, by its index
-pub out_some : (p : Inside) (keep : Option ℕ) (index : ℕ) → index_out (places_of p.places) keep ≡ Some index → page_out (shown p) keep ≡ Some (slice_index p.places.resident.items index)
+pub out_some : (p : Inside) (keep : Option ℕ) (index : ℕ) → index_out (pool_places p.places) keep ≡ Some index → page_out (pool_shown p) keep ≡ Some (slice_index p.places.resident.items index)
 out_some p keep index is = grind (arith, nat_tests, find-position)
 
-pub out_none : (p : Inside) (keep : Option ℕ) → index_out (places_of p.places) keep ≡ None → page_out (shown p) keep ≡ None
+pub out_none : (p : Inside) (keep : Option ℕ) → index_out (pool_places p.places) keep ≡ None → page_out (pool_shown p) keep ≡ None
 out_none p keep is = grind (arith, nat_tests, none_room)
 
 split : (xs : List ℕ) → 0 < length xs → (rest : List ℕ) × (xs ≡ slice_index xs 0 ∷ rest)
 split [] some = absurd (omega arith)
 split (x ∷ rest) some = (rest, refl)
 
-pub emptied_step : (p : Inside) → 0 < length p.places.resident.items → emptied (gone (shown p) (slice_index p.places.resident.items 0)) ≡ emptied (shown p)
-emptied_step p some = grind (arith, nat_tests, split p.places.resident.items some, resident-in_frame (places_of p.places) 0 p.places.sound some, removed-taken p.places.resident.items 0 p.places.sound.placed.pages_apart some)
+pub emptied_step : (p : Inside) → 0 < length p.places.resident.items → pool_emptied (gone (pool_shown p) (slice_index p.places.resident.items 0)) ≡ pool_emptied (pool_shown p)
+emptied_step p some = grind (arith, nat_tests, split p.places.resident.items some, resident-in_frame (pool_places p.places) 0 p.places.sound some, removed-taken p.places.resident.items 0 p.places.sound.placed.pages_apart some)
 
 -- the lines of a set are lines of a page
 pub lines-below : (set : List ℕ) → IsOfPage set → All (λ line. line < 16) set
@@ -121,24 +121,24 @@ lines-below set is = All-from_get_or (λ line. line < 16) set 0 (λ i below. of_
 
 -- paging space after a page left, as it was computed
 pub kept-after_by :
-    (p : Inside) (page frame at : ℕ) (marks part kept : List ℕ) → marks ≡ marks_at (shown p) page → at ≡ page * page_bytes p.places.page
-    → part ≡ frame_bytes (shown p) frame → kept ≡ (if length marks == 0 then p.kept else overlaid p.kept at part) → kept ≡ paging_after (shown p) page frame
+    (p : Inside) (page frame at : ℕ) (marks part kept : List ℕ) → marks ≡ marks_at (pool_shown p) page → at ≡ page * page_bytes p.places.page
+    → part ≡ frame_bytes (pool_shown p) frame → kept ≡ (if length marks == 0 then p.kept else overlaid p.kept at part) → kept ≡ paging_after (pool_shown p) page frame
 kept-after_by p page frame at marks part kept marked place bytes is = grind (arith, nat_tests)
 
 -- the resident pages when one has gone out for another
 room-resident :
     (p : Inside) (keep : Option ℕ)
-    → (with_room (shown p) keep).resident
+    → (with_room (pool_shown p) keep).resident
     ≡ (if nat_lt (length p.places.resident.items) p.places.frames then p.places.resident.items else first_out (option_to_list keep) p.places.resident.items)
 room-resident p keep =
-    let there = λ (index : ℕ). resident-in_frame (places_of p.places) index p.places.sound in
+    let there = λ (index : ℕ). resident-in_frame (pool_places p.places) index p.places.sound in
     let taken = λ (index : ℕ). removed-taken p.places.resident.items index p.places.sound.placed.pages_apart in
     let none = out_none p keep in
     let some = out_some p keep in
-    grind (arith, nat_tests, none_room p.places keep, index_out_below p.places keep, gone-from (shown p), there, taken, none, some, p.places.resident.ok)
+    grind (arith, nat_tests, none_room p.places keep, index_out_below p.places keep, gone-from (pool_shown p), there, taken, none, some, p.places.resident.ok)
 
 -- a page came in
 pub came-brought :
-    (old mid : Inside) (keep : Option ℕ) (page frame : ℕ) (after : Places) → shown mid ≡ with_room (shown old) keep
-    → CameIn (places_of mid.places) after page frame → Brought (shown old) (shown_with after mid.bytes mid.marked.items mid.kept) page keep frame
+    (old mid : Inside) (keep : Option ℕ) (page frame : ℕ) (after : Places) → pool_shown mid ≡ with_room (pool_shown old) keep
+    → CameIn (pool_places mid.places) after page frame → Brought (pool_shown old) (shown_with after mid.bytes mid.marked.items mid.kept) page keep frame
 came-brought old mid keep page frame after room came = grind (arith, nat_tests, has-push_last after.free frame, room-resident old keep)

@@ -1,9 +1,9 @@
 -- A pool's pages agree after a page left its frame, and after one came into a frame; and what such a step needs.
-use Rattle.frame_pool.proofs.Common.{◌≡◌, ℕ, zero, suc, ◌+◌, ◌*◌, ◌<◌, ◌≤◌, Bool, true, false, List, [], ◌∷◌, ◌++◌, length, refl, sym, ◌∙◌, ap, arith, Some, None, ◌==◌, remove, replicate, slice_index, slice_index_or, slice_set, Option, is_some, unwrap_or, range_with_len, cases_eq, nat_tests, length-set, length-append, get_or-set_same, get_or-set_other, length-replicate, get_or-replicate, PageSize, has-range, has, private_frames, frame_count, IsSound, IsPlaced, IsOfStore, is_apart, length-remove, ◌||◌, not, and_from, or_from, not_from_false, has-append, vec_len, vec_capacity, position, if◌then◌else◌, Result, is_ok, IsOk, IsSome, option_to_list, prefix_len, get_or_read_under, place_of, index_out, places_of}
+use Rattle.frame_pool.proofs.Common.{◌≡◌, ℕ, zero, suc, ◌+◌, ◌*◌, ◌<◌, ◌≤◌, Bool, true, false, List, [], ◌∷◌, ◌++◌, length, refl, sym, ◌∙◌, ap, arith, Some, None, ◌==◌, remove, replicate, slice_index, slice_index_or, slice_set, Option, is_some, unwrap_or, range_with_len, cases_eq, nat_tests, length-set, length-append, get_or-set_same, get_or-set_other, length-replicate, get_or-replicate, PageSize, has-range, has, private_frames, frame_count, ArePlacesSound, IsPlaced, IsOfStore, is_apart, length-remove, ◌||◌, not, and_from, or_from, not_from_false, has-append, vec_len, vec_capacity, position, if◌then◌else◌, Result, is_ok, IsOk, IsSome, option_to_list, prefix_len, get_or_read_under, frame_of_page, index_out, pool_places}
 use Rattle.std.proofs.Math.ListN.{get_or-eq_default}
 use Rattle.std.proofs.lemmas.List.FromFn.{length-range_with_len}
-use Rattle.frame_pool.specs.Places.{Places, place_of, page_at, resident_at, frame_of_index, fresh_places, left}
-use Rattle.frame_pool.specs.declared.pages.StorePages.{StorePages}
+use Rattle.frame_pool.specs.Places.{Places, frame_of_page, place_page, resident_at, frame_of_index, fresh_places, place_left}
+use Rattle.frame_pool.specs.declared.frame_places.FramePlaces.{FramePlaces}
 
 -- lists in which no number stands twice, under a push and a removal
 pub or_none : (x y : Bool) → (x || y) ≡ false → (x ≡ false) × (y ≡ false)
@@ -78,16 +78,16 @@ has-removed (x ∷ xs) (suc i) apart below = grind (arith, nat_tests, first-apar
 within : (X : Type 0) → (xs : List (Option X)) (i : ℕ) (x : X) → slice_index_or xs i None ≡ Some x → i < length xs
 within X xs i x there = grind (arith, nat_tests, get_or-eq_default)
 
-pub page-within : (pages : Places) (page frame : ℕ) → place_of pages page ≡ Some frame → page < length pages.frame_of
+pub page-within : (pages : Places) (page frame : ℕ) → frame_of_page pages page ≡ Some frame → page < length pages.frame_of
 page-within pages page frame there = within ℕ pages.frame_of page frame there
 
 differ : (x y : ℕ) → (x ≡ y → ⊥) → (x == y) ≡ false
 differ x y apart = grind (arith, nat_tests)
 
-pub resident-in_frame : (pages : Places) (index : ℕ) → IsSound pages → index < length pages.resident → place_of pages (resident_at pages index) ≡ Some (frame_of_index pages index)
+pub resident-in_frame : (pages : Places) (index : ℕ) → ArePlacesSound pages → index < length pages.resident → frame_of_page pages (resident_at pages index) ≡ Some (frame_of_index pages index)
 resident-in_frame pages index sound below = grind (arith, nat_tests, has-at)
 
-pub frame_of_store : (pages : Places) (page frame : ℕ) → IsSound pages → place_of pages page ≡ Some frame → IsOfStore pages frame
+pub frame_of_store : (pages : Places) (page frame : ℕ) → ArePlacesSound pages → frame_of_page pages page ≡ Some frame → IsOfStore pages frame
 frame_of_store pages page frame sound there = sound.placed.in_use page frame (sound.placed.there page frame there)
 
 pub page_part : (page count size : ℕ) → page < count → page * size + size ≤ count * size
@@ -107,8 +107,8 @@ pair-came to from x y inside also free each p f is = grind (arith, nat_tests, ca
 
 -- a page left: its frame is free
 pub sound-left :
-    (pages : Places) (index page frame : ℕ) → IsSound pages → index < length pages.resident → slice_index pages.resident index ≡ page
-    → place_of pages page ≡ Some frame → IsSound (left pages index page frame)
+    (pages : Places) (index page frame : ℕ) → ArePlacesSound pages → index < length pages.resident → slice_index pages.resident index ≡ page
+    → frame_of_page pages page ≡ Some frame → ArePlacesSound (place_left pages index page frame)
 sound-left pages index page frame sound below is_page in_frame =
     record {
       sized = record { some = sound.sized.some; few = sound.sized.few; page_in = length-set pages.page_in frame None ∙ sound.sized.page_in };
@@ -138,7 +138,7 @@ sound-left pages index page frame sound below is_page in_frame =
     page_inside : page < length pages.frame_of
     page_inside = page-within pages page frame in_frame
 
-    back : page_at pages frame ≡ Some page
+    back : place_page pages frame ≡ Some page
     back = old.there page frame in_frame
 
     frame_inside : frame < length pages.page_in
@@ -153,18 +153,18 @@ sound-left pages index page frame sound below is_page in_frame =
 -- the same where the parts are told apart
 pub sound-left_by :
     (pages : Places) (index page frame : ℕ) (resident free : List ℕ) (frame_of page_in : List (Option ℕ))
-    → IsSound pages → index < length pages.resident → slice_index pages.resident index ≡ page → place_of pages page ≡ Some frame
+    → ArePlacesSound pages → index < length pages.resident → slice_index pages.resident index ≡ page → frame_of_page pages page ≡ Some frame
     → resident ≡ remove pages.resident index → frame_of ≡ slice_set pages.frame_of page None → page_in ≡ slice_set pages.page_in frame None
     → free ≡ pages.free ++ frame ∷ []
-    → IsSound (record pages { resident = resident; frame_of = frame_of; page_in = page_in; free = free })
+    → ArePlacesSound (record pages { resident = resident; frame_of = frame_of; page_in = page_in; free = free })
 sound-left_by pages index page frame resident free frame_of page_in sound below is_page in_frame e1 e2 e3 e4 =
     rw (e1, e2, e3, e4) (sound-left pages index page frame sound below is_page in_frame)
 
 -- a page came into a free frame
 pub sound-came :
-    (pages : Places) (page frame : ℕ) (free : List ℕ) → IsSound pages → has pages.resident page ≡ false → page < length pages.frame_of
+    (pages : Places) (page frame : ℕ) (free : List ℕ) → ArePlacesSound pages → has pages.resident page ≡ false → page < length pages.frame_of
     → pages.free ≡ free ++ frame ∷ []
-    → IsSound (record pages {
+    → ArePlacesSound (record pages {
       resident = pages.resident ++ page ∷ [];
       frame_of = slice_set pages.frame_of page (Some frame);
       page_in = slice_set pages.page_in frame (Some page);
@@ -205,20 +205,20 @@ sound-came pages page frame free sound absent page_inside split =
     apart_before : (is_apart free ≡ true) × (has free frame ≡ false)
     apart_before = apart-front free frame (ap is_apart (sym split) ∙ old.free_apart)
 
-    was_free : (page_at pages frame ≡ None) × IsOfStore pages frame
+    was_free : (place_page pages frame ≡ None) × IsOfStore pages frame
     was_free = old.is_free frame (ap (λ (xs : List ℕ). has xs frame) split ∙ has-push_last free frame)
 
     frame_inside : frame < length pages.page_in
     frame_inside = omega (arith, was_free.1.below, sound.sized.page_in)
 
-    not_there : place_of pages page ≡ None
+    not_there : frame_of_page pages page ≡ None
     not_there = let was = old.resident page in grind (arith, nat_tests, was, absent)
 
 pub sound-came_by :
     (pages : Places) (page frame : ℕ) (resident free : List ℕ) (frame_of page_in : List (Option ℕ))
-    → IsSound pages → has pages.resident page ≡ false → page < length pages.frame_of → pages.free ≡ free ++ frame ∷ []
+    → ArePlacesSound pages → has pages.resident page ≡ false → page < length pages.frame_of → pages.free ≡ free ++ frame ∷ []
     → resident ≡ pages.resident ++ page ∷ [] → frame_of ≡ slice_set pages.frame_of page (Some frame) → page_in ≡ slice_set pages.page_in frame (Some page)
-    → IsSound (record pages { resident = resident; frame_of = frame_of; page_in = page_in; free = free })
+    → ArePlacesSound (record pages { resident = resident; frame_of = frame_of; page_in = page_in; free = free })
 sound-came_by pages page frame resident free frame_of page_in sound absent inside split e1 e2 e3 =
     rw (e1, e2, e3) (sound-came pages page frame free sound absent inside split)
 
@@ -237,7 +237,7 @@ range-apart low (suc count) = apart-cons low (range_with_len (low + 1) count) (n
 in-range : (low count x : ℕ) → has (range_with_len low count) x ≡ true → (low ≤ x) × (x < low + count)
 in-range low count x inside = grind (arith, nat_tests, has-range)
 
-pub sound-fresh : (size : PageSize) (frames pages : ℕ) → 2 ≤ frames → frames ≤ 1024 → IsSound (fresh_places size frames pages)
+pub sound-fresh : (size : PageSize) (frames pages : ℕ) → 2 ≤ frames → frames ≤ 1024 → ArePlacesSound (fresh_places size frames pages)
 sound-fresh size frames pages some few =
     record {
       sized = record { some = some; few = few; page_in = length-replicate {A = Option ℕ} (frame_count size frames) None };
@@ -258,24 +258,24 @@ pub sound-fresh_by :
     (size : PageSize) (frames pages first : ℕ) (resident free : List ℕ) (frame_of page_in : List (Option ℕ))
     → 2 ≤ frames → frames ≤ 1024 → first ≡ private_frames size
     → resident ≡ [] → frame_of ≡ replicate pages None → page_in ≡ replicate (first + frames) None → free ≡ range_with_len first frames
-    → IsSound (record { page = size; frames = frames; resident = resident; frame_of = frame_of; page_in = page_in; free = free })
+    → ArePlacesSound (record { page = size; frames = frames; resident = resident; frame_of = frame_of; page_in = page_in; free = free })
 sound-fresh_by size frames pages first resident free frame_of page_in some few e0 e1 e2 e3 e4 =
     rw (e1, e2, e3, e4, e0) (sound-fresh size frames pages some few)
 
 -- what holds of a page at a place of the resident ones
-pub record Leaves (p : StorePages) (index page : ℕ) : Type 0 where
+pub record Leaves (p : FramePlaces) (index page : ℕ) : Type 0 where
   pub at : slice_index p.resident.items index ≡ page
   pub below : index < length p.resident.items
-  pub in_frame : place_of (places_of p) page ≡ Some (unwrap_or (place_of (places_of p) page) 0)
+  pub in_frame : frame_of_page (pool_places p) page ≡ Some (unwrap_or (frame_of_page (pool_places p) page) 0)
   pub inside : page < vec_len p.frame_of
-  pub frame : unwrap_or (place_of (places_of p) page) 0 < vec_len p.page_in
+  pub frame : unwrap_or (frame_of_page (pool_places p) page) 0 < vec_len p.page_in
   pub free : vec_len p.free < vec_capacity p.free
 
-pub leaves : (p : StorePages) (index page : ℕ) → index < vec_len p.resident → page ≡ slice_index_or p.resident.items index page → Leaves p index page
+pub leaves : (p : FramePlaces) (index page : ℕ) → index < vec_len p.resident → page ≡ slice_index_or p.resident.items index page → Leaves p index page
 leaves p index page index_below read =
     record { at = sym at; below = below; in_frame = in_frame; inside = omega (arith, inside, p.frame_of.ok.0); frame = frame; free = omega (arith, sound.placed.used, below, p.free_room, p.free.ok.0) }
   where
-    sound : IsSound (places_of p)
+    sound : ArePlacesSound (pool_places p)
     sound = p.sound
 
     below : index < length p.resident.items
@@ -284,21 +284,21 @@ leaves p index page index_below read =
     at : page ≡ slice_index p.resident.items index
     at = get_or_read_under p.resident.items index (vec_len p.resident) page 0 read index_below p.resident.ok.0
 
-    in_frame : place_of (places_of p) page ≡ Some (unwrap_or (place_of (places_of p) page) 0)
-    in_frame = rw at (resident-in_frame (places_of p) index sound below)
+    in_frame : frame_of_page (pool_places p) page ≡ Some (unwrap_or (frame_of_page (pool_places p) page) 0)
+    in_frame = rw at (resident-in_frame (pool_places p) index sound below)
 
     inside : page < length p.frame_of.items
-    inside = page-within (places_of p) page (unwrap_or (place_of (places_of p) page) 0) in_frame
+    inside = page-within (pool_places p) page (unwrap_or (frame_of_page (pool_places p) page) 0) in_frame
 
-    frame : unwrap_or (place_of (places_of p) page) 0 < vec_len p.page_in
+    frame : unwrap_or (frame_of_page (pool_places p) page) 0 < vec_len p.page_in
     frame =
-        let store = frame_of_store (places_of p) page (unwrap_or (place_of (places_of p) page) 0) sound in_frame in
+        let store = frame_of_store (pool_places p) page (unwrap_or (frame_of_page (pool_places p) page) 0) sound in_frame in
         omega (arith, store.below, sound.sized.page_in, p.page_in.ok.0)
 
 -- the frame that was read of a page
 pub read_frame :
-    (p : StorePages) (place page frame : ℕ) (read : Option ℕ) → place ≡ page → page < vec_len p.frame_of → read ≡ slice_index_or p.frame_of.items place read
-    → frame ≡ unwrap_or read 0 → frame ≡ unwrap_or (place_of (places_of p) page) 0
+    (p : FramePlaces) (place page frame : ℕ) (read : Option ℕ) → place ≡ page → page < vec_len p.frame_of → read ≡ slice_index_or p.frame_of.items place read
+    → frame ≡ unwrap_or read 0 → frame ≡ unwrap_or (frame_of_page (pool_places p) page) 0
 read_frame p place page frame read same inside is value =
     let at : read ≡ slice_index_or p.frame_of.items place None = get_or_read_under p.frame_of.items place (vec_len p.frame_of) read None is (omega arith) p.frame_of.ok.0 in
     value ∙ ap (λ (o : Option ℕ). unwrap_or o 0) (at ∙ ap (λ (i : ℕ). slice_index_or p.frame_of.items i None) same)
@@ -312,10 +312,10 @@ pub popped : (old new : List ℕ) (o : Option ℕ) → old ≡ new ++ option_to_
 popped old new o is some = grind (arith, nat_tests)
 
 -- a frame is free where not all are in use
-pub some-free : (p : StorePages) → vec_len p.resident < p.frames → 0 < vec_len p.free
+pub some-free : (p : FramePlaces) → vec_len p.resident < p.frames → 0 < vec_len p.free
 some-free p room = omega (arith, p.sound.placed.used, p.resident.ok.0, p.free.ok.0)
 
-pub free-within : (p : StorePages) (frame : ℕ) (free : List ℕ) → p.free.items ≡ free ++ frame ∷ [] → frame < vec_len p.page_in
+pub free-within : (p : FramePlaces) (frame : ℕ) (free : List ℕ) → p.free.items ≡ free ++ frame ∷ [] → frame < vec_len p.page_in
 free-within p frame free split = grind (arith, nat_tests, has-push_last free frame)
 
 some-goes :
@@ -329,11 +329,11 @@ not-all-stay keep (x ∷ []) apart two none = omega arith
 not-all-stay keep (x ∷ y ∷ rest) apart two none = let all = some-goes keep x y rest apart in grind (arith, nat_tests, all)
 
 -- where no page goes out a frame is free
-pub none_room : (p : StorePages) (keep : Option ℕ) → index_out (places_of p) keep ≡ None → vec_len p.resident < p.frames
+pub none_room : (p : FramePlaces) (keep : Option ℕ) → index_out (pool_places p) keep ≡ None → vec_len p.resident < p.frames
 none_room p keep none = grind (arith, nat_tests, not-all-stay)
 
 -- the place of the page that goes out is one of the resident ones
-pub index_out_below : (p : StorePages) (keep : Option ℕ) (index : ℕ) → index_out (places_of p) keep ≡ Some index → index < length p.resident.items
+pub index_out_below : (p : FramePlaces) (keep : Option ℕ) (index : ℕ) → index_out (pool_places p) keep ≡ Some index → index < length p.resident.items
 index_out_below p keep index is = grind (arith, nat_tests)
 
 -- one more number of a range

@@ -26,12 +26,12 @@ fresh_places size frames pages =
     }
 
 -- the frame of a page
-abbrev pub place_of : Places → ℕ → Option ℕ
-place_of places page = slice_index_or places.frame_of page None
+abbrev pub frame_of_page : Places → ℕ → Option ℕ
+frame_of_page places page = slice_index_or places.frame_of page None
 
 -- the page of a frame
-abbrev pub page_at : Places → ℕ → Option ℕ
-page_at places frame = slice_index_or places.page_in frame None
+abbrev pub place_page : Places → ℕ → Option ℕ
+place_page places frame = slice_index_or places.page_in frame None
 
 -- the page at an index of the resident ones
 abbrev pub resident_at : Places → ℕ → ℕ
@@ -39,7 +39,7 @@ resident_at places index = slice_index places.resident index
 
 -- and its frame
 abbrev pub frame_of_index : Places → ℕ → ℕ
-frame_of_index places index = unwrap_or (place_of places (resident_at places index)) 0
+frame_of_index places index = unwrap_or (frame_of_page places (resident_at places index)) 0
 
 -- the index of the page that goes out for another: none while a frame is free, else that of the first that isn't to stay
 abbrev pub index_out : Places → Option ℕ → Option ℕ
@@ -47,8 +47,8 @@ index_out places keep =
     if nat_lt (length places.resident) places.frames then None else position (λ page. not (has (option_to_list keep) page)) places.resident
 
 -- the page at an index of the resident ones left its frame
-abbrev pub left : Places → (index page frame : ℕ) → Places
-left places index page frame =
+abbrev pub place_left : Places → (index page frame : ℕ) → Places
+place_left places index page frame =
     record places {
       resident = remove places.resident index;
       frame_of = slice_set places.frame_of page None;
@@ -57,7 +57,7 @@ left places index page frame =
     }
 
 abbrev pub left_at : Places → ℕ → Places
-left_at places index = left places index (resident_at places index) (frame_of_index places index)
+left_at places index = place_left places index (resident_at places index) (frame_of_index places index)
 
 -- a page came into a frame that was free
 pub record CameIn (old new : Places) (page frame : ℕ) : Type 0 where

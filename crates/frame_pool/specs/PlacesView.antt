@@ -1,9 +1,9 @@
 -- The places that `StorePages` keeps.
 use Rattle.frame_pool.specs.Places.{Places}
-use Rattle.frame_pool.specs.declared.pages.StorePages.{StorePages}
+use Rattle.frame_pool.specs.declared.frame_places.FramePlaces.{FramePlaces}
 
-abbrev pub places_of : StorePages → Places
-places_of pages =
+abbrev pub pool_places : FramePlaces → Places
+pool_places pages =
     record {
       page = pages.page;
       frames = pages.frames;

@@ -3,11 +3,11 @@ use Rattle.std.specs.Prelude.{◌≡◌, ℕ, ◌+◌, ◌-◌, ◌*◌, ◌/◌
 use Rattle.frame_pool.specs.Below.{between, difference, has, option_map_or, overlaid, page_bytes, PageSize, union}
 use Rattle.lines.specs.Resident.{brought, taken_out}
 use Rattle.frame_pool.specs.Sizes.{private_frames, frame_count, line_size, line_place}
-use Rattle.frame_pool.specs.declared.model.Pool.{Pool}
+use Rattle.frame_pool.specs.declared.pool_model.Pool.{Pool}
 
 -- a pool with zeros in its frames, no page resident and no line marked
-abbrev pub fresh : PageSize → (frames pages : ℕ) → Pool
-fresh size frames pages =
+abbrev pub fresh_pool : PageSize → (frames pages : ℕ) → Pool
+fresh_pool size frames pages =
     record {
       page = size;
       frames = frames;
@@ -32,8 +32,8 @@ abbrev pub marks_at : Pool → ℕ → List ℕ
 marks_at pool page = slice_index_or pool.marked page []
 
 -- a part of the bytes of a frame, from an offset on
-abbrev pub part_of : Pool → (frame at count : ℕ) → List ℕ
-part_of pool frame at count = slice_range pool.bytes (frame * page_bytes pool.page + at) (frame * page_bytes pool.page + at + count)
+abbrev pub frame_part : Pool → (frame at count : ℕ) → List ℕ
+frame_part pool frame at count = slice_range pool.bytes (frame * page_bytes pool.page + at) (frame * page_bytes pool.page + at + count)
 
 -- where a frame begins among the bytes, and a page in paging space
 abbrev pub page_start : Pool → ℕ → ℕ
@@ -113,12 +113,12 @@ abbrev pub settled : Pool → (page : ℕ) → List ℕ → Pool
 settled pool page lines = record pool { marked = slice_set pool.marked page (difference (marks_at pool page) lines) }
 
 -- a page left its frame, and these of its lines are forgotten
-abbrev pub undone : Pool → (page : ℕ) → List ℕ → Pool
-undone pool page lines = gone (settled pool page lines) page
+abbrev pub page_undone : Pool → (page : ℕ) → List ℕ → Pool
+page_undone pool page lines = gone (settled pool page lines) page
 
 -- all pages left their frames
-abbrev pub emptied : Pool → Pool
-emptied pool = fold gone pool pool.resident
+abbrev pub pool_emptied : Pool → Pool
+pool_emptied pool = fold gone pool pool.resident
 
 -- bytes of frames written over from a place on
 abbrev pub with_bytes : Pool → ℕ → List ℕ → Pool
@@ -133,8 +133,8 @@ abbrev pub page_laid : (page frame : ℕ) → Pool → Pool
 page_laid page frame pool = with_bytes pool (page_start pool frame) (page_kept pool page)
 
 -- all marked lines of a page lie over those of its frame, if it is in one
-abbrev pub laid : Pool → ℕ → Pool
-laid pool page = option_map_or (λ frame. fold (line_laid page frame) pool (marks_at pool page)) (frame_at pool page) pool
+abbrev pub kept_laid : Pool → ℕ → Pool
+kept_laid pool page = option_map_or (λ frame. fold (line_laid page frame) pool (marks_at pool page)) (frame_at pool page) pool
 
 -- the lines in which a part of a page lies
 abbrev pub lines_of_part : PageSize → (at count : ℕ) → List ℕ

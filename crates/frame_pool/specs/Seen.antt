@@ -1,7 +1,7 @@
 -- What holds of every pool that is seen.
 use Rattle.std.specs.Prelude.{◌≡◌, ℕ, ◌*◌, ◌≤◌, ◌<◌, length, Some, is_some, true}
 use Rattle.frame_pool.specs.Below.{has, page_bytes}
-use Rattle.frame_pool.specs.declared.model.Pool.{Pool}
+use Rattle.frame_pool.specs.declared.pool_model.Pool.{Pool}
 use Rattle.frame_pool.specs.Sizes.{private_frames, frame_count}
 use Rattle.frame_pool.specs.Pool.{frame_at, page_at}
 use Rattle.frame_pool.specs.Sound.{is_apart}

@@ -2,7 +2,7 @@
 use Rattle.std.specs.Prelude.{◌≡◌, ℕ, ◌+◌, ◌≤◌, ◌<◌, ◌&&◌, not, Bool, true, List, [], ◌∷◌, length, Some, None, is_some}
 use Rattle.lines.specs.Sets.{has}
 use Rattle.frame_pool.specs.Sizes.{private_frames, frame_count}
-use Rattle.frame_pool.specs.Places.{Places, place_of, page_at}
+use Rattle.frame_pool.specs.Places.{Places, frame_of_page, place_page}
 
 -- whether no number stands twice
 abbrev pub is_apart : List ℕ → Bool
@@ -25,12 +25,12 @@ pub record IsPlaced (places : Places) : Type 0 where
   pub used : length places.resident + length places.free ≡ places.frames
   pub pages_apart : is_apart places.resident ≡ true
   pub free_apart : is_apart places.free ≡ true
-  pub resident : (page : ℕ) → has places.resident page ≡ is_some (place_of places page)
-  pub there : (page frame : ℕ) → place_of places page ≡ Some frame → page_at places frame ≡ Some page
-  pub back : (page frame : ℕ) → page_at places frame ≡ Some page → place_of places page ≡ Some frame
-  pub in_use : (page frame : ℕ) → page_at places frame ≡ Some page → IsOfStore places frame
-  pub is_free : (frame : ℕ) → has places.free frame ≡ true → (page_at places frame ≡ None) × IsOfStore places frame
+  pub resident : (page : ℕ) → has places.resident page ≡ is_some (frame_of_page places page)
+  pub there : (page frame : ℕ) → frame_of_page places page ≡ Some frame → place_page places frame ≡ Some page
+  pub back : (page frame : ℕ) → place_page places frame ≡ Some page → frame_of_page places page ≡ Some frame
+  pub in_use : (page frame : ℕ) → place_page places frame ≡ Some page → IsOfStore places frame
+  pub is_free : (frame : ℕ) → has places.free frame ≡ true → (place_page places frame ≡ None) × IsOfStore places frame
 
-pub record IsSound (places : Places) : Type 0 where
+pub record ArePlacesSound (places : Places) : Type 0 where
   pub sized : IsSized places
   pub placed : IsPlaced places

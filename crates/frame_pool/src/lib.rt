@@ -3,11 +3,11 @@
 #![tactic(auto)]
 
 mod frame_bytes;
-mod model;
-mod pages;
+mod frame_places;
 mod pool;
+mod pool_model;
 mod sizes;
 
-pub use model::Pool;
 pub use pool::{FramePool, Slot};
+pub use pool_model::Pool;
 pub use sizes::private_frames;

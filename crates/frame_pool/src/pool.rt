@@ -4,7 +4,7 @@ ghost use Rattle.frame_pool.specs.Sizes.{private_frames, frame_count, line_place
 ghost use Rattle.frame_pool.specs.Pool.{marked_with};
 
 use super::frame_bytes::FrameBytes;
-use super::pages::StorePages;
+use super::frame_places::FramePlaces;
 use super::sizes::{line_bytes, line_place, page_bytes, page_place, private_frames};
 use lines::{LineSet, OwnedList, PageSize};
 use std::alloc::{AllocError, Global};
@@ -29,21 +29,21 @@ struct Spot {
 #[derive(Drop)]
 pub struct FramePool {
     bytes: FrameBytes,
-    places: StorePages,
+    places: FramePlaces,
     marked: Vec<LineSet>,
     kept: OwnedList<u8>,
 }
 
 impl Model for FramePool {
-    ghost use Rattle.frame_pool.specs.declared.model.Pool.{Pool};
+    ghost use Rattle.frame_pool.specs.declared.pool_model.Pool.{Pool};
 
     ghost Value = { Pool };
 
-    ghost use Rattle.frame_pool.specs.View.{shown, HasSizes};
+    ghost use Rattle.frame_pool.specs.View.{pool_shown, PoolHasSizes};
 
-    ghost view = { shown };
+    ghost view = { pool_shown };
 
-    ghost invariant = { HasSizes };
+    ghost invariant = { PoolHasSizes };
 }
 
 /// So many times no line.
@@ -61,7 +61,7 @@ fn zeros(alloc: Global, count: usize) -> Result<OwnedList<u8>, AllocError>
 }
 
 impl FramePool {
-    ghost use Rattle.frame_pool.specs.Pool.{Brought, fresh, frame_at, page_at, marks_at, part_of, frame_bytes, line_in_frame, line_kept, line_shown, gone, page_out, with_room, settled, undone, emptied, laid, line_laid, page_laid, page_start, lines_of_part};
+    ghost use Rattle.frame_pool.specs.Pool.{Brought, fresh_pool, frame_at, page_at, marks_at, frame_part, frame_bytes, line_in_frame, line_kept, line_shown, gone, page_out, with_room, settled, page_undone, pool_emptied, kept_laid, line_laid, page_laid, page_start, lines_of_part};
     ghost use Rattle.frame_pool.specs.Seen.{IsSeen};
     ghost use Rattle.frame_pool.specs.PoolLending.{LendsFrame, LendsMarked};
 
@@ -75,12 +75,12 @@ impl FramePool {
     ) -> Result<FramePool, AllocError>
         requires some { 2 ≤ frames }
         requires few { frames ≤ 1024 }
-        ensures value { IfOk result (λ pool. pool ≡ fresh page frames pages) }
+        ensures value { IfOk result (λ pool. pool ≡ fresh_pool page frames pages) }
         ensures seen { IfOk result IsSeen }
     {
         Ok(FramePool {
             bytes: FrameBytes::zeros(alloc, page_place(page, private_frames(page) + frames))?,
-            places: StorePages::new(alloc, page, frames, pages)?,
+            places: FramePlaces::new(alloc, page, frames, pages)?,
             marked: no_lines(alloc, pages)?,
             kept: zeros(alloc, page_place(page, pages))?,
         })
@@ -213,7 +213,7 @@ impl FramePool {
     #[tactic(auto, using(crate::proofs::PoolLemmas::frame_within, crate::proofs::PoolLemmas::is_seen))]
     pub fn lay_kept(&mut self, page: u16)
         requires { page < length self.old.frame_of }
-        ensures value { self.new ≡ laid self.old page }
+        ensures value { self.new ≡ kept_laid self.old page }
         ensures seen { IsSeen self.new }
     {
         if let Some(frame) = self.places.frame_of(page) {
@@ -291,7 +291,7 @@ impl FramePool {
     pub fn part(&self, frame: u16, at: usize, count: usize) -> &[u8]
         requires frame { frame < frame_count self.now.page self.now.frames }
         requires within { at + count ≤ page_bytes self.now.page }
-        ensures { result.now ≡ part_of self.now frame at count }
+        ensures { result.now ≡ frame_part self.now frame at count }
     {
         self.bytes
             .part(page_place(self.places.page, frame) + at, count)
@@ -324,7 +324,7 @@ impl FramePool {
         requires frame { frame < frame_count self.old.page self.old.frames }
         requires within { at + count ≤ page_bytes self.old.page }
         ensures* writes_back { sem 𝓛 (LendsMarked self.entry frame at count result) }
-        ensures value { result.now ≡ part_of self.old frame at count }
+        ensures value { result.now ≡ frame_part self.old frame at count }
     {
         let place = page_place(self.places.page, frame) + at;
         let lines = self.lines_of_part(at, count);
@@ -393,7 +393,7 @@ impl FramePool {
     #[tactic(auto, using(crate::proofs::PoolLemmas::gone_none, crate::proofs::PoolLemmas::not_resident, std::proofs::lemmas::Bool::Decides::nat_tests))]
     pub fn undo(&mut self, page: u16, lines: LineSet)
         requires { page < length self.old.frame_of }
-        ensures { self.new ≡ undone self.old page lines }
+        ensures { self.new ≡ page_undone self.old page lines }
     {
         self.settle(page, lines);
         if let Some(index) = self.places.index_of(page) {
@@ -404,7 +404,7 @@ impl FramePool {
     /// All pages leave their frames. Their marked lines are kept.
     #[tactic(auto, using(crate::proofs::PoolLemmas::emptied_step, std::proofs::lemmas::Bool::Decides::nat_tests))]
     pub fn empty(&mut self)
-        ensures { self.new ≡ emptied self.old }
+        ensures { self.new ≡ pool_emptied self.old }
     {
         while !self.places.resident.is_empty() {
             let _ = self.leave(0);

@@ -1,35 +1,35 @@
 -- A load on the store that a disk stands for.
-use Rattle.job_calls.proofs.Common.{◌≡◌, ℕ, ◌<◌, ◌≤◌, ⊎_elim, true, false, List, [], ◌∷◌, ◌++◌, length, refl, sym, ◌∙◌, ap, subst, arith, append-nil, append_assoc, Option, Ghosts, Failed, AreTold, Prints, IsSure, Elapses, CallsDisk, FewerLater, OnlyAsks, held_of, elapses-trans, FlatStore, Activation, Event, begun, is_commit, commit_lines, serial_lines, IsSerial, Desk, Word, Line, printed, spaced, faulted, Header, total, IsSessionOpened, activity, order_of, SessionState, ghosts, IsLasting, RunsQuietly, Tells, is_rollback, is_shut, out_after, InDoubt, PrintedNow, to_later, Job, Status, HasBigRun, IsToldBy, Loaded, LoadedBy, RanBig, big_line, last_out, line_for, Call, call, RunsFrom, IsStanding, TellsStore, StillTold, codes, decimal, All, Bool, Some, Result, Ok, Err, IsSome, IsTrue, count_by, HoldsStore, FailsOnlyCounted, span, Opening, end_of, lines_of, opening_of, fixed_of, OnErr, Rose, GoesBy, going_of, WentThrough}
+use Rattle.job_calls.proofs.Common.{◌≡◌, ℕ, ◌<◌, ◌≤◌, ⊎_elim, true, false, List, [], ◌∷◌, ◌++◌, length, refl, sym, ◌∙◌, ap, subst, arith, append-nil, append_assoc, Option, Ghosts, Failed, AreTold, Prints, IsSure, Elapses, CallsDisk, FewerLater, OnlyAsks, held_of, elapses-trans, FlatStore, Activation, Event, begun, is_commit, commit_lines, serial_lines, IsSerial, Desk, DiskWord, ReportLine, printed, spaced, faulted, Header, total, IsSessionOpened, activity, order_of, SessionState, ghosts, IsLasting, RunsQuietly, TallyTells, is_rollback, is_shut, out_after, InDoubt, PrintedNow, to_later, Job, Status, HasBigRun, IsToldBy, Loaded, LoadedBy, RanBig, big_line, last_out, line_for, Called, call, RunsFrom, IsStanding, TellsStore, StillTold, codes, decimal, All, Bool, Some, Result, Ok, Err, IsSome, IsTrue, count_by, HoldsStore, FailsOnlyCounted, span, Opening, run_end, lines_of, opening_of, fixed_of, OnErr, Rose, GoesBy, going_of, WentThrough}
 use Rattle.std.specs.List.{fold}
 use Rattle.std.specs.Option.{ForSome}
 use Rattle.hex.specs.Hex.{encode_lower}
 use Rattle.schedule_replay.specs.declared.quietly.Quiet.{Quiet}
-use Rattle.listing.specs.Puts.{Puts, PutsTimes}
+use Rattle.listing.specs.BytesPut.{PrintsBytes, PutsTimes}
 use Rattle.job_text.specs.Big.{IsBigJob, big_events}
 use Rattle.job_text.proofs.BigLemmas.{events_all}
 use Rattle.call_status.specs.Faults.{FaultsBy}
 use Rattle.call_status.specs.Printed.{put_of, PrintsBy}
-use Rattle.desk.specs.Lines as line
+use Rattle.desk.specs.ReportLines as line
 use Rattle.schedule_replay.specs.declared.quietly.Quiet.TheVariants as quiet
 use Rattle.call_status.specs.declared.status.Status.TheVariants as status
 use Rattle.job_calls.proofs.CauseLemmas.{opens_past}
 use Rattle.job_calls.proofs.RunLemmas.{RanFrom, first_desk, first_opening, has-opened, these, runs-from, told-since}
 
 -- only the commit lines tell what was printed last
-out_filtered : (last : List ℕ) (lines : List Line) → fold out_after last lines ≡ fold out_after last (commit_lines lines)
+out_filtered : (last : List ℕ) (lines : List ReportLine) → fold out_after last lines ≡ fold out_after last (commit_lines lines)
 out_filtered last [] = refl
 out_filtered last (line.Commit activation number steps out ∷ lines) = out_filtered out lines
 out_filtered last (other ∷ lines) = out_filtered last lines
 
 -- the last commit line of a run that ends open is that of its programs run one after another
-pub last_serial : (activations : List Activation) (number : ℕ) (store : FlatStore) (order : List (ℕ × ℕ)) (lines : List Line) (committed : FlatStore) (closed : Bool) → IsSerial activations number store order lines committed closed → closed ≡ false → last_out lines ≡ last_out (serial_lines activations number order store)
+pub last_serial : (activations : List Activation) (number : ℕ) (store : FlatStore) (order : List (ℕ × ℕ)) (lines : List ReportLine) (committed : FlatStore) (closed : Bool) → IsSerial activations number store order lines committed closed → closed ≡ false → last_out lines ≡ last_out (serial_lines activations number order store)
 last_serial activations number store order lines committed closed is still =
     let all : is.done ≡ order = sym (append-nil is.done) ∙ ap (λ (behind : List (ℕ × ℕ)). is.done ++ behind) (sym (is.none_open still)) ∙ sym is.order_is in
     out_filtered [] lines ∙ ap last_out is.lines_are ∙ ap (λ (those : List (ℕ × ℕ)). last_out (serial_lines activations number those store)) all
 
 module _ {W : Type 0} (G : Ghosts W) (fewer_later : FewerLater G) where
   -- bytes that were sure are, after a put
-  sure_put : {T : Type 0} (bytes : List ℕ) (before after : W) (result : Result T Failed) → Puts G bytes before after result → IsSure G before → IsSure G after
+  sure_put : {T : Type 0} (bytes : List ℕ) (before after : W) (result : Result T Failed) → PrintsBytes G bytes before after result → IsSure G before → IsSure G after
   sure_put bytes before after result puts sure = record {
     honest = subst (λ b. IsTrue b) (sym puts.only.honest) sure.honest;
     told = subst (λ (those : Option (List ℕ)). IsSome those) (sym puts.only.held) sure.told;
@@ -39,7 +39,7 @@ module _ {W : Type 0} (G : Ghosts W) (fewer_later : FewerLater G) where
   }
 
   -- each image that a put left is one that was left before it
-  image_before : {T : Type 0} (bytes : List ℕ) (start before after : W) (result : Result T Failed) → Elapses G.moment G.left_since start before → Puts G bytes before after result → (image seen : List ℕ) → G.left_since after (G.moment start) image seen → (other : List ℕ) × G.left_since before (G.moment start) image other
+  image_before : {T : Type 0} (bytes : List ℕ) (start before after : W) (result : Result T Failed) → Elapses G.moment G.left_since start before → PrintsBytes G bytes before after result → (image seen : List ℕ) → G.left_since after (G.moment start) image seen → (other : List ℕ) × G.left_since before (G.moment start) image other
   image_before bytes start before after result time puts image seen left =
       ⊎_elim (λ was. (seen, was))
       (λ since. let from = puts.images image seen since in (from.0, fewer_later before (G.moment start) (G.moment before) image from.0 time.later from.1))
@@ -52,7 +52,7 @@ still-holds G header transfers (quiet.Ended commits rollbacks) last before after
 still-holds G header transfers quiet.Closed last before after now told holds = subst (HoldsStore G header) (sym told.1) holds
 
 -- the line of a tally is that of its lines
-line_told : (transfers commits rollbacks : ℕ) (last : List ℕ) (lines : List Line) → Tells (record { commits = commits; rollbacks = rollbacks }) [] last lines → big_line transfers commits rollbacks last ≡ line_for transfers lines
+line_told : (transfers commits rollbacks : ℕ) (last : List ℕ) (lines : List ReportLine) → TallyTells (record { commits = commits; rollbacks = rollbacks }) [] last lines → big_line transfers commits rollbacks last ≡ line_for transfers lines
 line_told transfers commits rollbacks last lines tells =
     ap (λ (n : ℕ). big_line transfers n rollbacks last) tells.commits
     ∙ ap (λ (n : ℕ). big_line transfers (count_by is_commit lines) n last) tells.rollbacks
@@ -61,13 +61,13 @@ line_told transfers commits rollbacks last lines tells =
 -- a run as it stands a little later, where nothing of it changed
 abbrev ran_until : {W : Type 0} (G : Ghosts W) (begins : Opening) (events : List Event) (new : SessionState) (start between after : W) (last : List ℕ) (quiet : Quiet)
     → RunsQuietly ghosts G begins events new (span start between) last quiet → G.held after ≡ G.held between → G.writes after ≡ G.writes between → G.disk_faults after ≡ G.disk_faults between → (IsSure G between → IsSure G after)
-    → (new.closed ≡ true → (front : List (Event × Word)) (event : Event) → InDoubt G begins front event between → InDoubt G begins front event after)
+    → (new.closed ≡ true → (front : List (Event × DiskWord)) (event : Event) → InDoubt G begins front event between → InDoubt G begins front event after)
     → ((image seen : List ℕ) → G.left_since after (G.moment start) image seen → (other : List ℕ) × G.left_since between (G.moment start) image other) → RanFrom G begins events new (span start after)
 ran_until G begins events new start between after last quiet runs held writes disk sure doubt images = record {
   taken = runs.ran.taken;
   rest = runs.rest;
   is_run = record { prefix = ap (λ (front : List Event). front ++ runs.rest) runs.ran.events_taken ∙ runs.whole; each_open = runs.ran.each_open };
-  to = to_later ghosts G (end_of begins runs.ran.taken) (lines_of begins runs.ran.taken) (faulted runs.ran.taken) new start between after held disk writes sure runs.ran.to;
+  to = to_later ghosts G (run_end begins runs.ran.taken) (lines_of begins runs.ran.taken) (faulted runs.ran.taken) new start between after held disk writes sure runs.ran.to;
   images = λ image seen left. let other = images image seen left in runs.ran.images image other.0 other.1;
   doubt = λ shut front event is. doubt (runs.ran.to.closes ∙ shut) front event (runs.ran.doubt shut front event is);
 }
@@ -77,7 +77,7 @@ module _ {W : Type 0} (G : Ghosts W) (fewer_later : FewerLater G) (printed_now :
     (same_honest : G.is_honest after ≡ G.is_honest start) (time : Elapses G.moment G.left_since start after) (asks-calm : G.disk_faults start ≡ G.disk_faults before)
     (last : List ℕ) (quiet : Quiet) (runs : RunsQuietly ghosts G (first_opening G job.frames before start desk opens asks []) job.events.items new (span start between) last quiet)
     (held : G.held after ≡ G.held between) (writes : G.writes after ≡ G.writes between) (disk : G.disk_faults after ≡ G.disk_faults between) (sure : IsSure G between → IsSure G after)
-    (doubt : new.closed ≡ true → (front : List (Event × Word)) (event : Event) → InDoubt G (first_opening G job.frames before start desk opens asks []) front event between → InDoubt G (first_opening G job.frames before start desk opens asks []) front event after)
+    (doubt : new.closed ≡ true → (front : List (Event × DiskWord)) (event : Event) → InDoubt G (first_opening G job.frames before start desk opens asks []) front event between → InDoubt G (first_opening G job.frames before start desk opens asks []) front event after)
     (images : (image seen : List ℕ) → G.left_since after (G.moment start) image seen → (other : List ℕ) × G.left_since between (G.moment start) image other) where
   abbrev half : RanFrom G (first_opening G job.frames before start desk opens asks []) job.events.items new (span start after)
   half = ran_until G (first_opening G job.frames before start desk opens asks []) job.events.items new start between after last quiet runs held writes disk sure doubt images
@@ -110,7 +110,7 @@ put_calm G before after status.Done past un cause = cause.done
 put_calm G before after status.PutFault past un cause = absurd (un refl)
 put_calm G before after _ past un cause = absurd past
 
-loaded_past : {W : Type 0} (G : Ghosts W) (transfers : ℕ) (c : Call W) (session : Option SessionState) (now : Status) → WentThrough now → RanBig G transfers c session → PutsTimes G 1 c.before c.after (put_of now) → LoadedBy G transfers c session now
+loaded_past : {W : Type 0} (G : Ghosts W) (transfers : ℕ) (c : Called W) (session : Option SessionState) (now : Status) → WentThrough now → RanBig G transfers c session → PutsTimes G 1 c.before c.after (put_of now) → LoadedBy G transfers c session now
 loaded_past G transfers c session status.Done past ran times = (ran, times)
 loaded_past G transfers c session status.PutFault past ran times = ran
 loaded_past G transfers c session _ past ran times = absurd past
@@ -146,7 +146,7 @@ module _ {W : Type 0} (G : Ghosts W) (fewer_later : FewerLater G) (printed_now :
                   let opened = opens standing.honest standing.told in
                   let begins = has-opened G job.frames before start desk opened asks in
                   let run = runs (first_desk G job.frames before start desk opened asks) begins.sure begins.shows in
-                  let lines : List Line = lines_of (first_opening G job.frames before start desk opened asks []) run.ran.taken in
+                  let lines : List ReportLine = lines_of (first_opening G job.frames before start desk opened asks []) run.ran.taken in
                   has_big_run G fewer_later printed_now transfers job before start between after desk new number store standing opened asks programs_are same_opened honest later asks-calm last (quiet.Ended commits rollbacks) run puts.only.held puts.only.writes puts.only.disk
                   (sure_put G fewer_later (big_line transfers commits rollbacks last) between after (put_of now) puts)
                   (λ shut. absurd (let no : ⊥ = let still : new.closed ≡ false = run.closed in cc in no))

@@ -5,8 +5,8 @@ use Rattle.desk.specs.declared.event.Event.TheVariants.{Checkpoint, Crash}
 use Rattle.desk.specs.declared.answers.Committed.{Committed}
 use Rattle.desk_law.proofs.Unbroken.{unbroken_more}
 use Rattle.job_text.specs.Ready as ready
-use Rattle.schedule_replay.specs.Answered.{IsReady}
-use Rattle.supervisor.specs.Opened.{IsNew}
+use Rattle.schedule_replay.specs.Answered.{MayBeAsked}
+use Rattle.session.specs.Opened.{IsNew}
 use Rattle.job_text.proofs.BackLemmas.{name_no_feed}
 
 bytes-unbroken : (bytes : List ℕ) → All (λ byte. byte ≢ 10) bytes → IsUnbroken bytes
@@ -24,10 +24,10 @@ asked-among programs _ is = is
 
 -- the events of a job that is ready may be asked of a session that has just opened for their begins
 pub ready-to-run : {W : Type 0} (G : Ghosts W) (job : Job) (s : SessionState) (outside : W) (begins : ℕ) (events : List Event) → events ≡ job.events.items → begins ≡ begins_in job.events.items
-    → ready.IsReady job → IsNew job.programs.items begins s → HoldsStore G s.store.header outside → IsReady ghosts G events s outside
+    → ready.IsReady job → IsNew job.programs.items begins s → HoldsStore G s.store.header outside → MayBeAsked ghosts G events s outside
 ready-to-run G job s outside begins events same counted ready made bytes =
     let programs : length job.programs.items ≡ length (activity s).programs = sym (ap (λ (these : List Program). length these) made.programs_are) in
-    subst (λ (these : List Event). IsReady ghosts G these s outside) (sym same)
+    subst (λ (these : List Event). MayBeAsked ghosts G these s outside) (sym same)
     (record {
       asked = λ k d within. asked-among (length (activity s).programs) (get_or job.events.items k d) (subst (λ (n : ℕ). IsEventAmong n (get_or job.events.items k d)) programs (ready.events k d within));
       begins = omega (arith, made.none_given, counted, made.begins_are);

@@ -1,20 +1,20 @@
 -- What runs on the store that a disk stands for.
-use Rattle.job_calls.proofs.Common.{Result, Ok, Err, IsErr, IsSome, IsTrue, unwrap_or, Ghosts, Failed, Prints, Rose, Elapses, OnlyAsks, FewerLater, Leaves, held_of, elapses-trans, leaves_on, FlatStore, Activation, serial, header_of, most_lines, Standing, Stands, stands, Event, Desk, opened, Word, Doubt, run, faulted, IsRunOf, Line, line_text, Open, number_after, begun, IsSerial, IsSessionOpened, activity, session_desk, order_of, SessionState, ghosts, Replayed, PrintsEarlier, HasOpened, InDoubt, text_of, Reports, Replays, PrintedNow, to_since, Job, Status, status_of_replay, Call, Given, call, TellsStore, StillTold, FailsOnlyCounted, way_of, DidBy, JobHasRun, HasRunFrom, DoubtStands, Happened, HappenedTo, IsOfStart, RanJob, RunsFrom, put_by, names_of, job_desk, ◌≡◌, ◌⊎◌, ℕ, ◌+◌, ◌%◌, ◌^◌, inl, inr, Bool, true, false, List, [], ◌∷◌, ◌++◌, length, take, refl, sym, ◌∙◌, ap, subst, arith, append-nil, Option, Some, None, opening, span, Opening, Span, end_of, lines_of, opening_of, report_of, report_lines_of, IfInDoubt, job_opening, fixed_of, TellsBy, ByOpening, PutJob, TellsJob}
+use Rattle.job_calls.proofs.Common.{Result, Ok, Err, IsErr, IsSome, IsTrue, unwrap_or, Ghosts, Failed, Prints, Rose, Elapses, OnlyAsks, FewerLater, Leaves, held_of, elapses-trans, leaves_on, FlatStore, Activation, serial, header_of, most_lines, Standing, Stands, stands, Event, Desk, opened, DiskWord, Doubt, run, faulted, IsRunOf, ReportLine, line_text, Open, number_after, begun, IsSerial, IsSessionOpened, activity, session_desk, order_of, SessionState, ghosts, Replayed, PrintsEarlier, HasOpened, InDoubt, run_text, Reports, Replays, PrintedNow, to_since, Job, Status, status_of_replay, Called, Given, call, TellsStore, StillTold, FailsOnlyCounted, way_of, DidBy, JobHasRun, HasRunFrom, DoubtStands, Happened, HappenedTo, IsOfStart, RanJob, RunsFrom, put_by, names_of, job_desk, ◌≡◌, ◌⊎◌, ℕ, ◌+◌, ◌%◌, ◌^◌, inl, inr, Bool, true, false, List, [], ◌∷◌, ◌++◌, length, take, refl, sym, ◌∙◌, ap, subst, arith, append-nil, Option, Some, None, opening, span, Opening, Interval, run_end, lines_of, opening_of, report_of, report_lines_of, IfInDoubt, job_opening, fixed_of, TellsBy, ByOpening, PutJob, TellsJob}
 use Rattle.std.proofs.lemmas.Bool.{cases_lt}
 use Rattle.outside.proofs.Prints.{prints_well, prints_broken}
-use Rattle.store.specs.KeptStore.{number_of}
+use Rattle.store.specs.KeptStore.{store_number}
 use Rattle.desk.specs.Crash.{standing_of}
 use Rattle.desk.proofs.SerialLaw.{run_serial}
 use Rattle.desk_law.specs.Headline.{IsFirst, IsPrefix}
 use Rattle.desk_law.specs.Left.{IsLeft, IsStage}
 use Rattle.desk_law.proofs.HeadlineLemmas.{left_is_prefix, doubt_is_whole, stage_is_first}
-use Rattle.supervisor.specs.ShownLaws.{shown-told}
-use Rattle.schedule_replay.specs.Puts.{PutsTimes, shown_of}
+use Rattle.session.specs.ShownLaws.{shown-told}
+use Rattle.schedule_replay.specs.LinesPut.{PutsTimes, shown_on}
 use Rattle.schedule_replay.specs.RanTo.{RanTo}
 use Rattle.schedule_replay.proofs.ReportLemmas.{told_since}
 use Rattle.schedule_replay.proofs.CountLemmas.{on_ok_as}
 use Rattle.job_text.specs.Grammar.{job_of, content_of}
-use Rattle.call_status.specs.SourceText.{IsWhole}
+use Rattle.call_status.specs.SourceText.{IsWholeText}
 use Rattle.job_calls.specs.Handed.{HandedRuns}
 use Rattle.job_calls.proofs.CauseLemmas.{put-same}
 use Rattle.schedule_replay.specs.declared.events.Replayed.TheVariants as replayed
@@ -40,21 +40,21 @@ module _ {W : Type 0} (G : Ghosts W) (frames : ℕ) (before start : W) (desk : S
   number-fits =
       let over = opens.shows.over in
       let same : held_of G start ≡ held_of G before = ap (λ (held : Option (List ℕ)). unwrap_or held []) asks.held in
-      let number : number_of desk.store ≡ desk.opened = same-number (number_of desk.store) desk.opened (record { directory = desk.store.header.directory; bytes = over.committed }) opens.store (sym over.stood ∙ ap (λ (held : List ℕ). stands held) same ∙ opens.stood) in
-      let after : number_of desk.store ≡ number_after desk.opened (session_desk desk over.committed) = over.number in
+      let number : store_number desk.store ≡ desk.opened = same-number (store_number desk.store) desk.opened (record { directory = desk.store.header.directory; bytes = over.committed }) opens.store (sym over.stood ∙ ap (λ (held : List ℕ). stands held) same ∙ opens.stood) in
+      let after : store_number desk.store ≡ number_after desk.opened (session_desk desk over.committed) = over.number in
       ap (λ (d : Desk). number_after desk.opened d) opens.shows.is ∙ sym after ∙ number
 
   pub has-opened : HasOpened ghosts G desk start first_desk
   has-opened = record { sure = opens.sure; shows = opens.shows; number = number-fits }
 
 -- a run of the first of events from an opening, without what was put
-pub record RanFrom {W : Type 0} (G : Ghosts W) (begins : Opening) (events : List Event) (new : SessionState) (span : Span W) : Type 0 where
-  pub taken : List (Event × Word)
+pub record RanFrom {W : Type 0} (G : Ghosts W) (begins : Opening) (events : List Event) (new : SessionState) (span : Interval W) : Type 0 where
+  pub taken : List (Event × DiskWord)
   pub rest : List Event
   pub is_run : IsRunOf begins.programs events begins.start taken rest
-  pub to : RanTo ghosts G (end_of begins taken) (lines_of begins taken) (faulted taken) new span
+  pub to : RanTo ghosts G (run_end begins taken) (lines_of begins taken) (faulted taken) new span
   pub images : Leaves G (λ image seen. IsStage begins.programs begins.number begins.start taken image) span.before span.after
-  pub doubt : IfInDoubt taken (end_of begins taken).closed (λ front event. InDoubt G begins front event span.after)
+  pub doubt : IfInDoubt taken (run_end begins taken).closed (λ front event. InDoubt G begins front event span.after)
 
 module _ {W : Type 0} (G : Ghosts W) (fewer_later : FewerLater G) (printed_now : PrintedNow G) (job : Job) (before start after : W) (desk new : SessionState) (number : ℕ) (store : FlatStore)
     (standing : TellsStore G before number store) (opens : IsSessionOpened G job.frames before start desk) (asks : OnlyAsks G before start) (programs_are : (activity desk).programs ≡ job.programs.items) (same_opened : new.opened ≡ desk.opened)
@@ -75,7 +75,7 @@ module _ {W : Type 0} (G : Ghosts W) (fewer_later : FewerLater G) (printed_now :
   pub these : (names : List (List ℕ)) → given names ≡ wanted names
   these names = λ i. opening names (programs_are i) (number-is i) (opened job.frames 16 (most_lines (sym opens.header i)) (same-store desk.opened number opens.store store (sym opens.stood ∙ standing.stood) i))
 
-  shown-same : shown_of G start ≡ shown_of G before
+  shown-same : shown_on G start ≡ shown_on G before
   shown-same = ap (λ (told : Option (List ℕ)). unwrap_or told []) asks.calls.quiet.same
 
   -- the opening left what the start did
@@ -84,7 +84,7 @@ module _ {W : Type 0} (G : Ghosts W) (fewer_later : FewerLater G) (printed_now :
       let earlier = asks.crash standing.told image seen left in (earlier, printed_now before image seen earlier)
 
   -- what a crash left of the opening and of a run from it, without a word on the screen
-  pub crash-any : (order : List (ℕ × ℕ)) (taken : List (Event × Word)) (rest : List Event) → IsRunOf job.programs.items job.events.items begins_with taken rest → order ≡ (run job.programs.items taken begins_with).order
+  pub crash-any : (order : List (ℕ × ℕ)) (taken : List (Event × DiskWord)) (rest : List Event) → IsRunOf job.programs.items job.events.items begins_with taken rest → order ≡ (run job.programs.items taken begins_with).order
       → Leaves G (λ image seen. IsStage (given []).programs (given []).number (given []).start taken image) start after → Leaves G (λ image seen. IsOfStart G before image seen ⊎ IsFirst (begun job.programs.items job.events.items) number store order image) before after
   crash-any order taken rest ran ordered_is images =
       leaves_on G fewer_later before start after asks.calls.time time (λ (image seen : List ℕ). IsOfStart G before image seen ⊎ IsFirst (begun job.programs.items job.events.items) number store order image)
@@ -102,13 +102,13 @@ module _ {W : Type 0} (G : Ghosts W) (fewer_later : FewerLater G) (printed_now :
     abbrev pub ends : Desk
     ends = run job.programs.items half.taken begins_with
 
-    abbrev pub lines : List Line
+    abbrev pub lines : List ReportLine
     lines = lines_of (wanted names) half.taken
 
     pub comes-to : RanTo ghosts G ends lines (faulted half.taken) new (span before after)
     comes-to =
         to_since ghosts G ends lines (faulted half.taken) new before start after asks.held asks-calm asks.writes
-        (subst (λ (f : Opening). RanTo ghosts G (end_of f half.taken) (lines_of f half.taken) (faulted half.taken) new (span start after)) (these names) half.to)
+        (subst (λ (f : Opening). RanTo ghosts G (run_end f half.taken) (lines_of f half.taken) (faulted half.taken) new (span start after)) (these names) half.to)
 
     pub ordered : (order_of new) ≡ ends.order
     ordered = comes-to.ordered
@@ -144,12 +144,12 @@ module _ {W : Type 0} (G : Ghosts W) (fewer_later : FewerLater G) (printed_now :
         )
 
     -- a doubt
-    pub doubt-leaves : ends.closed ≡ true → (front : List (Event × Word)) (event : Event) → half.taken ≡ front ++ (event, Doubt) ∷ [] → DoubtStands G job number store (order_of new) after
+    pub doubt-leaves : ends.closed ≡ true → (front : List (Event × DiskWord)) (event : Event) → half.taken ≡ front ++ (event, Doubt) ∷ [] → DoubtStands G job number store (order_of new) after
     doubt-leaves shut front event is =
-        let doubted = subst (λ (f : Opening). IfInDoubt half.taken (end_of f half.taken).closed (λ front event. InDoubt G f front event after)) (these names) half.doubt shut front event is in
-        let ran = subst (λ (taken : List (Event × Word)). IsRunOf job.programs.items job.events.items begins_with taken half.rest) is is_run in
+        let doubted = subst (λ (f : Opening). IfInDoubt half.taken (run_end f half.taken).closed (λ front event. InDoubt G f front event after)) (these names) half.doubt shut front event is in
+        let ran = subst (λ (taken : List (Event × DiskWord)). IsRunOf job.programs.items job.events.items begins_with taken half.rest) is is_run in
         let whole = doubt_is_whole job.programs.items number job.frames 16 (most_lines (header_of (take 128 (held_of G before)))) store job.events.items front event half.rest ran doubted.0 in
-        let order : (run job.programs.items (front ++ (event, Doubt) ∷ []) begins_with).order ≡ (order_of new) = ap (λ (taken : List (Event × Word)). (run job.programs.items taken begins_with).order) (sym is) ∙ sym ordered in (
+        let order : (run job.programs.items (front ++ (event, Doubt) ∷ []) begins_with).order ≡ (order_of new) = ap (λ (taken : List (Event × DiskWord)). (run job.programs.items taken begins_with).order) (sym is) ∙ sym ordered in (
           doubted.1.0,
           whole.0,
           ap (λ (those : List (ℕ × ℕ)). serial commits those store) (sym order) ∙ whole.1,
@@ -184,17 +184,17 @@ module _ {W : Type 0} (G : Ghosts W) (fewer_later : FewerLater G) (printed_now :
     names = names_of job
 
     -- a crash
-    crash-leaves : IsSome (G.printed before) → Leaves G (λ image seen. IsOfStart G before image seen ⊎ IsPrefix (commits names half) number store (order_of new) (shown_of G before) image seen) before after
+    crash-leaves : IsSome (G.printed before) → Leaves G (λ image seen. IsOfStart G before image seen ⊎ IsPrefix (commits names half) number store (order_of new) (shown_on G before) image seen) before after
     crash-leaves told =
-        let P : List ℕ → List ℕ → Type 0 = λ image seen. IsOfStart G before image seen ⊎ IsPrefix (commits names half) number store (order_of new) (shown_of G before) image seen in
+        let P : List ℕ → List ℕ → Type 0 = λ image seen. IsOfStart G before image seen ⊎ IsPrefix (commits names half) number store (order_of new) (shown_on G before) image seen in
         let still : IsSome (G.printed start) = subst (λ (those : Option (List ℕ)). IsSome those) (sym asks.calls.quiet.same) told in
         leaves_on G fewer_later before start after asks.calls.time time P (λ image seen left. inl (opening-left image seen left))
         (λ image seen left. inr
-        (subst (λ (order : List (ℕ × ℕ)). IsPrefix (commits names half) number store order (shown_of G before) image seen) (sym (ordered names half))
+        (subst (λ (order : List (ℕ × ℕ)). IsPrefix (commits names half) number store order (shown_on G before) image seen) (sym (ordered names half))
         (subst (λ (printed : List ℕ). IsPrefix (commits names half) number store (ends names half).order printed image seen) shown-same
         (left_is_prefix job.programs.items number job.frames 16 (most_lines (header_of (take 128 (held_of G before)))) store job.events.items reports.taken reports.rest
-        (report_of (wanted names) reports.taken reports.rest) (shown_of G start) image seen (is_run names half)
-        (subst (λ (f : Opening). IsLeft f.programs f.number f.start reports.taken (report_of f reports.taken reports.rest) (shown_of G start) image seen) (these names) (reports.left still image seen left))))))
+        (report_of (wanted names) reports.taken reports.rest) (shown_on G start) image seen (is_run names half)
+        (subst (λ (f : Opening). IsLeft f.programs f.number f.start reports.taken (report_of f reports.taken reports.rest) (shown_on G start) image seen) (these names) (reports.left still image seen left))))))
 
     -- the opening puts nothing
     times-since : (put : Result ℕ Failed) → PutsTimes G (length (report_lines_of (wanted names) reports.taken reports.rest)) start after put → PutsTimes G (length (report_lines_of (wanted names) reports.taken reports.rest)) before after put
@@ -218,8 +218,8 @@ module _ {W : Type 0} (G : Ghosts W) (fewer_later : FewerLater G) (printed_now :
       printed = subst (λ (told : Option (List ℕ)). Prints told (G.printed after) (report_of (wanted names) reports.taken reports.rest) put) asks.calls.quiet.same
           (turns (G.printed start) (G.printed after) (report_of (wanted names) reports.taken reports.rest)
           (subst (λ (f : Opening). Prints (G.printed start) (G.printed after) (report_of f reports.taken reports.rest) result) (these names) reports.printed));
-      earlier = subst (λ (told : Option (List ℕ)). PrintsEarlier told (G.printed after) (λ front. line_text (Open number) ++ text_of (wanted names) front) reports.taken) asks.calls.quiet.same
-          (subst (λ (f : Opening). PrintsEarlier (G.printed start) (G.printed after) (λ front. line_text (Open f.number) ++ text_of f front) reports.taken) (these names) reports.earlier);
+      earlier = subst (λ (told : Option (List ℕ)). PrintsEarlier told (G.printed after) (λ front. line_text (Open number) ++ run_text (wanted names) front) reports.taken) asks.calls.quiet.same
+          (subst (λ (f : Opening). PrintsEarlier (G.printed start) (G.printed after) (λ front. line_text (Open f.number) ++ run_text f front) reports.taken) (these names) reports.earlier);
       times = times-since put (on_ok_as _ result put fails (subst (λ (f : Opening). PutsTimes G (length (report_lines_of f reports.taken reports.rest)) start after result) (these names) reports.times));
       seen = crash-leaves;
     }
@@ -266,7 +266,7 @@ module _ {W : Type 0} (G : Ghosts W) (fewer_later : FewerLater G) (printed_now :
   }
 
 -- what running did, as something else that it did
-did-as : {W : Type 0} (G : Ghosts W) (ran other : Type 0) (c : Call W) (session : Option SessionState) (now : Status) → (ran → other) → DidBy G ran c session now → DidBy G other c session now
+did-as : {W : Type 0} (G : Ghosts W) (ran other : Type 0) (c : Called W) (session : Option SessionState) (now : Status) → (ran → other) → DidBy G ran c session now → DidBy G other c session now
 did-as G ran other c session status.Done turns did = turns did
 did-as G ran other c session status.PutFault turns did = turns did
 did-as G ran other c (Some session) status.DiskFault turns did = turns did
@@ -278,7 +278,7 @@ opening-as (Some session) one other none turns is = turns is
 opening-as None one other none turns is = is
 
 -- what happened to the job of a text
-pub happens : {W : Type 0} (G : Ghosts W) (text : List ℕ) (job : Job) (from : Given) (c : Call W) (session : Option SessionState) → IsWhole from.left from.left_now text → job_of text ≡ Ok (content_of job) → HappenedTo G job c session → HandedRuns job.programs.items session → Happened G from c session
+pub happens : {W : Type 0} (G : Ghosts W) (text : List ℕ) (job : Job) (from : Given) (c : Called W) (session : Option SessionState) → IsWholeText from.left from.left_now text → job_of text ≡ Ok (content_of job) → HappenedTo G job c session → HandedRuns job.programs.items session → Happened G from c session
 happens G text job from c session whole means did runs =
     record {
       honest = did.honest;

@@ -2,7 +2,7 @@
 use Rattle.std.specs.Prelude.{◌≡◌, ◌≤◌, ℕ, List, Bool, true, false, Option, None, Some}
 use Rattle.job_calls.specs.Below.{Ghosts, HoldsStore, SessionState, Status, WentThrough}
 use Rattle.flat_machine.specs.declared.machine.Program.{Program}
-use Rattle.supervisor.specs.Session.{activity, order_of, session_told, header_of_session}
+use Rattle.session.specs.Session.{activity, order_of, session_told, header_of_session}
 use Rattle.call_status.specs.declared.status.Status.TheVariants as status
 
 -- whether a session whose events ended with this status is closed; other statuses come with none
@@ -20,14 +20,14 @@ HandsOn order None status = ¬ (WentThrough status)
 
 -- A session fits an outside: the bytes that are told are enough for its store, and at most 10,000 turns were asked of it. So each of
 -- its calls may be asked of it with this outside, but for a begin behind the last for which it has room.
-pub record Fits {W : Type 0} (G : Ghosts W) (outside : W) (s : SessionState) : Type 0 where
+pub record SessionFits {W : Type 0} (G : Ghosts W) (outside : W) (s : SessionState) : Type 0 where
   pub bytes : HoldsStore G (header_of_session s) outside
   pub turns : (session_told s).turns ≤ 10000
 
 -- the session that is handed on, if one is, fits the outside
 abbrev pub HandedFits : {W : Type 0} → Ghosts W → W → Option SessionState → Type 0
 HandedFits G outside None = Unit {0}
-HandedFits G outside (Some session) = Fits G outside session
+HandedFits G outside (Some session) = SessionFits G outside session
 
 -- and runs these programs
 abbrev pub HandedRuns : List Program → Option SessionState → Type 0

@@ -3,8 +3,8 @@ ghost use Rattle.std.specs.Prelude.{◌≡◌, [], None};
 
 use call_status::Status;
 use desk::Committed;
+use session::Session;
 use std::alloc::Global;
-use supervisor::Session;
 
 /// What a call came to: its status, and the commits whose gate write began, in order. At most the last of
 /// them has no sync that succeeded. A call that opened a store for a job's programs hands on its session as it is at the end.

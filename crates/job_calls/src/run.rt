@@ -10,8 +10,8 @@ use desk::{Committed, Event};
 use job_text::Job;
 use outside::{Outside, Source};
 use schedule_replay::{Replayed, replay};
+use session::Session;
 use std::alloc::Global;
-use supervisor::Session;
 
 /// Runs the job of a source on the disk's store, and puts its report, a line at a time.
 pub fn run_source<S: Source, W: Outside>(alloc: Global, source: &mut S, outside: &mut W) -> Ended

@@ -1,5 +1,5 @@
 -- The names and events of a job that some text has: it can be run, and is the job of what is written of it.
-use Rattle.job_text.proofs.Common.{◌≡◌, ℕ, suc, ◌+◌, ◌<◌, ◌^◌, map, List, [], ◌∷◌, ◌++◌, length, Ok, Result, sym, ◌∙◌, subst, arith, All, AllByRecursion, zip, length-map, recursion_from_All, ArrayVec, Parts, parts_of, IsByte, Job, JobFault, HasPrograms, IsJobText, content_of, job_of, IsJobAnswer, IsEventAmong, IsReady, AreBytes, written, nat_tests, true, codes, list_all, All-from_recursion, Word, is_label, continues_word, found_tokens, IsWord, IsName, bytes_eq, All-append, All-cons, All-nil, position-Some, Event, Begin, Turn, Token, IsBegin, IsNoBegin, IsEventLine, HasEvents, rounds_of, turns_to, four_of}
+use Rattle.job_text.proofs.Common.{◌≡◌, ℕ, suc, ◌+◌, ◌<◌, ◌^◌, map, List, [], ◌∷◌, ◌++◌, length, Ok, Result, sym, ◌∙◌, subst, arith, All, AllByRecursion, zip, length-map, recursion_from_All, ArrayVec, Parts, parts_of, IsByte, Job, JobFault, HasPrograms, IsJobText, content_of, job_of, IsJobAnswer, IsEventAmong, IsReady, AreBytes, job_written, nat_tests, true, codes, list_all, All-from_recursion, Word, is_label, continues_word, found_tokens, IsWord, IsName, bytes_eq, All-append, All-cons, All-nil, position-Some, Event, Begin, Turn, Token, IsBeginLine, IsNoBegin, IsEventLine, HasEvents, rounds_of, turns_to, four_of}
 use Rattle.std.specs.Prelude.{IfOk}
 use Rattle.flat_machine.specs.declared.machine.Program.{Program}
 use Rattle.job_text.proofs.FormLemmas.{has_form, form_read}
@@ -53,7 +53,7 @@ module _ (names : List (List ℕ)) where
   abbrev AreAmong : List Event → Type 0
   AreAmong events = All (IsEventAmong (length names)) events
 
-  begin_among : (found : List Token) (here : List Event) → IsBegin names found here → AreAmong here
+  begin_among : (found : List Token) (here : List Event) → IsBeginLine names found here → AreAmong here
   begin_among found here is = grind (arith, is.gives, one_event (length names) (Begin is.program (four_of is.values)) (position-Some (λ name. bytes_eq name is.name) names is.program [] is.known).0)
 
   other_among : (begins : ℕ) (found : List Token) (here : List Event) → IsNoBegin begins found here → AreAmong here
@@ -87,17 +87,17 @@ job_sound : (text : List ℕ) (job : Job) → All (λ (program : List ℕ × Par
 job_sound text job are form = grind (arith, nat_tests, all_sound, as_many, recursion_from_All)
 
 -- what a job of some text is written as is short
-pub short_back : (text : List ℕ) (job : Job) → All (λ (program : List ℕ × Parts). AreBytes program.1.image) (zip (content_of job).names (content_of job).programs) → job_of text ≡ Ok (content_of job) → length (written (content_of job)) < 2 ^ 23
+pub short_back : (text : List ℕ) (job : Job) → All (λ (program : List ℕ × Parts). AreBytes program.1.image) (zip (content_of job).names (content_of job).programs) → job_of text ≡ Ok (content_of job) → length (job_written (content_of job)) < 2 ^ 23
 short_back text job are is =
     let form = has_form text (content_of job) is in
     written_short text (content_of job) form (job_sound text job are form)
 
 -- the job of some text is the job of what is written of it
-pub read_back : (text : List ℕ) (job : Job) → All (λ (program : List ℕ × Parts). AreBytes program.1.image) (zip (content_of job).names (content_of job).programs) → job_of text ≡ Ok (content_of job) → job_of (written (content_of job)) ≡ Ok (content_of job)
+pub read_back : (text : List ℕ) (job : Job) → All (λ (program : List ℕ × Parts). AreBytes program.1.image) (zip (content_of job).names (content_of job).programs) → job_of text ≡ Ok (content_of job) → job_of (job_written (content_of job)) ≡ Ok (content_of job)
 read_back text job are is =
     let content = content_of job in
     let form = has_form text content is in
-    form_read (written content) content (written_form text content form (job_sound text job are form))
+    form_read (job_written content) content (written_form text content form (job_sound text job are form))
 
 -- the job of a text can be run
 job_ready : (text : List ℕ) (job : Job) → job_of text ≡ Ok (content_of job) → IsReady job

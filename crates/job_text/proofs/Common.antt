@@ -15,10 +15,10 @@ pub use Rattle.std.specs.Str.{bytes_eq}
 pub use Rattle.arrayvec.specs.ArrayVec.{ArrayVec}
 pub use Rattle.asm_parse.proofs.FrontLemmas.{found_tokens, IsToken, IsWord, blank_front, mark_front, number_front, number_pass, word_front}
 pub use Rattle.asm_parse.specs.Operand.{place_among}
-pub use Rattle.asm_parse.specs.Statement.{is_label, line_of, statement_of}
-pub use Rattle.asm_parse.specs.Text.{at_line, is_feed, lines_of, then_statements}
+pub use Rattle.asm_parse.specs.Statement.{is_label, line_meaning, statement_of}
+pub use Rattle.asm_parse.specs.Text.{at_line, is_feed, text_lines, then_statements}
 unfoldable pub use Rattle.asm_parse.specs.Text.{statements_from}
-pub use Rattle.asm_parse.specs.Token.{before, begins_word, continues_word, tokens}
+pub use Rattle.asm_parse.specs.Token.{token_before, begins_word, continues_word, tokens}
 unfoldable pub use Rattle.asm_parse.specs.Token.{tokens_past}
 pub use Rattle.asm_parse.specs.declared.statement.Statement.{Statement}
 pub use Rattle.asm_parse.specs.declared.token.Token.{Token}
@@ -33,15 +33,15 @@ pub use Rattle.romp_asm.proofs.ExportLemmas.{linked_alone, linked_made}
 pub use Rattle.romp_asm.specs.Linked.{exported, linked}
 unfoldable pub use Rattle.romp_asm.specs.Linked.{fault_among, fault_behind}
 pub use Rattle.job_text.specs.Big.{account_of, batch, batches, big_events, big_sources, move_of, other_of, transfer, turns_of}
-pub use Rattle.job_text.specs.Form.{AreBlank, FaultsEndTheReading, HasEvents, HasPrograms, HasSources, HaveNoMark, IsBegin, IsBlank, IsDrain, IsEventLine, IsFramesLine, IsJobText, IsLimit, IsNoBegin, IsOnly, IsProgram, IsSingle, IsTurn}
-pub use Rattle.job_text.specs.Grammar.{Content, content_of, job_of, last_part, then_read, whole}
+pub use Rattle.job_text.specs.Form.{AreBlank, FaultsEndTheReading, HasEvents, HasPrograms, HasSources, HaveNoMark, IsBeginLine, IsBlank, IsDrain, IsEventLine, IsFramesLine, IsJobText, IsLimit, IsNoBegin, IsOnly, IsProgram, IsSingle, IsTurn}
+pub use Rattle.job_text.specs.Grammar.{Content, content_of, job_of, last_part, then_read, whole_job}
 unfoldable pub use Rattle.job_text.specs.Grammar.{read_from}
 pub use Rattle.job_text.specs.JobAnswers.{IsJobAnswer, IsJobFaultOf}
 pub use Rattle.job_text.specs.Reader.{held, reading_of, tokens_read}
 pub use Rattle.job_text.specs.Reading.{Reading, begin_line, begin_of, by_tokens, drain_line, ended_line, four_of, frames_line, is_end, is_limit, is_part, line_read, nothing_read, program_begins, program_ends, programs_line, schedule_line, single_line, source_ends, source_goes_on, source_line, sources_of, turn_line, values_of, with_event}
 unfoldable pub use Rattle.job_text.specs.Reading.{rounds_of, turns_to}
 pub use Rattle.job_text.specs.Ready.{IsEventAmong, IsName, IsReady}
-pub use Rattle.job_text.specs.Written.{AreBytes, access_text, behind_text, end_line, event_line, head_lines, image_lines, job_lines, line_text, number_line, program_lines, token_text, tokens_text, window_line, window_lines, written}
+pub use Rattle.job_text.specs.Written.{AreBytes, access_text, behind_text, end_line, event_line, head_lines, image_lines, job_lines, token_line, number_line, program_lines, token_text, tokens_text, window_tokens, windows_tokens, job_written}
 pub use Rattle.job_text.specs.declared.job.Job.{Job}
 pub use Rattle.job_text.specs.declared.job.JobFault.{JobFault}
 pub use Rattle.job_text.specs.declared.stage.Stage.{Stage}

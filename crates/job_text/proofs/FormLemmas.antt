@@ -1,5 +1,5 @@
 -- What is read as a job has the form of one, and a text that has the form of a job is read as it.
-use Rattle.job_text.proofs.Common.{◌≡◌, inl, inr, ℕ, ◌+◌, ◌≤◌, nat_lt, if◌then◌else◌, Bool, true, false, List, [], ◌∷◌, ◌++◌, length, map, codes, Option, Some, None, Result, Ok, Err, refl, sym, ap, ◌∙◌, subst, arith, append_assoc, append-nil, length-append, bytes_eq, nat_tests, bytes_eq-Decides, Event, Turn, Checkpoint, Crash, Token, Word, Number, Statement, place_among, is_label, line_of, at_line, lines_of, statements_from, tokens, Parts, linked, Stage, Frames, Programs, Source, Schedule, Ended, Content, job_of, last_part, read_from, then_read, Reading, nothing_read, frames_line, programs_line, is_end, is_part, program_ends, source_goes_on, source_line, sources_of, with_event, values_of, begin_of, turn_line, drain_line, single_line, schedule_line, ended_line, by_tokens, line_read, IsBlank, AreBlank, IsOnly, HasSources, IsFramesLine, HasPrograms, IsLimit, IsEventLine, HasEvents, IsJobText, cond_both, le-leb, lt-ltb, false_from_ne_true, then_statements, tokens_read, HaveNoMark, IsProgram}
+use Rattle.job_text.proofs.Common.{◌≡◌, inl, inr, ℕ, ◌+◌, ◌≤◌, nat_lt, if◌then◌else◌, Bool, true, false, List, [], ◌∷◌, ◌++◌, length, map, codes, Option, Some, None, Result, Ok, Err, refl, sym, ap, ◌∙◌, subst, arith, append_assoc, append-nil, length-append, bytes_eq, nat_tests, bytes_eq-Decides, Event, Turn, Checkpoint, Crash, Token, Word, Number, Statement, place_among, is_label, line_meaning, at_line, text_lines, statements_from, tokens, Parts, linked, Stage, Frames, Programs, Source, Schedule, Ended, Content, job_of, last_part, read_from, then_read, Reading, nothing_read, frames_line, programs_line, is_end, is_part, program_ends, source_goes_on, source_line, sources_of, with_event, values_of, begin_of, turn_line, drain_line, single_line, schedule_line, ended_line, by_tokens, line_read, IsBlank, AreBlank, IsOnly, HasSources, IsFramesLine, HasPrograms, IsLimit, IsEventLine, HasEvents, IsJobText, cond_both, le-leb, lt-ltb, false_from_ne_true, then_statements, tokens_read, HaveNoMark, IsProgram}
 use Rattle.job_text.proofs.DrainLemmas.{length-rounds_of}
 use Rattle.job_text.proofs.GrammarLemmas.{read_line}
 
@@ -215,7 +215,7 @@ module _ (number : ℕ) (line : List ℕ) (lines : List (List ℕ)) (content : C
     left = subst (λ n. ProgramsLeft (record (content_read reading) { programs = reading.programs ++ behind.parts ∷ [] }) reading.begins n behind.rest content) (omega arith) behind.left;
   }
 
-  source_goes : is_end (tokens line) ≡ false → is_part (tokens line) ≡ false → (meaning : Result (Option Statement) ℕ) → line_of number line ≡ meaning → BackSource (source_goes_on reading (at_line number meaning))
+  source_goes : is_end (tokens line) ≡ false → is_part (tokens line) ≡ false → (meaning : Result (Option Statement) ℕ) → line_meaning number line ≡ meaning → BackSource (source_goes_on reading (at_line number meaning))
   unfolding statements_from
   source_goes no_end no_part (Ok (Some statement)) is =
       λ left.
@@ -450,7 +450,7 @@ lines_left reading number (line ∷ next ∷ lines) content small is =
 -- a job has the form of one
 pub has_form : (text : List ℕ) (content : Content) → job_of text ≡ Ok content → IsJobText text content
 has_form text content is =
-    let frames = lines_left nothing_read 1 (lines_of text) content (omega arith, omega arith, omega arith) is in
+    let frames = lines_left nothing_read 1 (text_lines text) content (omega arith, omega arith, omega arith) is in
     let programs = frames.left in
     let events = programs.left in
     let tail = events.left in
@@ -564,11 +564,11 @@ module _ (frames : ℕ) (names : List (List ℕ)) (programs : List Parts) (sourc
   record Gives (number : ℕ) (line : List ℕ) (source : List (List ℕ)) (statements more : List Statement) : Type 0 where
     here : List Statement
     others : List Statement
-    goes : source_goes_on (in_source statements) (at_line number (line_of number line)) ≡ Ok (in_source (statements ++ here))
+    goes : source_goes_on (in_source statements) (at_line number (line_meaning number line)) ≡ Ok (in_source (statements ++ here))
     parsed : statements_from (number + 1) source ≡ Ok others
     all : more ≡ here ++ others
 
-  gives_line : (number : ℕ) (line : List ℕ) (source : List (List ℕ)) (statements more : List Statement) (meaning : Result (Option Statement) ℕ) (others : Result (List Statement) (ℕ × ℕ)) → line_of number line ≡ meaning → statements_from (number + 1) source ≡ others → then_statements number meaning others ≡ Ok more → Gives number line source statements more
+  gives_line : (number : ℕ) (line : List ℕ) (source : List (List ℕ)) (statements more : List Statement) (meaning : Result (Option Statement) ℕ) (others : Result (List Statement) (ℕ × ℕ)) → line_meaning number line ≡ meaning → statements_from (number + 1) source ≡ others → then_statements number meaning others ≡ Ok more → Gives number line source statements more
   gives_line number line source statements more (Ok (Some statement)) (Ok rest) is parsed gives = record {
     here = statement ∷ [];
     others = rest;
@@ -598,7 +598,7 @@ module _ (frames : ℕ) (names : List (List ℕ)) (programs : List Parts) (sourc
       let none : [] ≡ more = cc parsed in
       ap (λ these. read_from (in_source these) number lines) (sym (append-nil statements) ∙ ap (λ these. statements ++ these) none) ∙ ap (λ n. read_from (in_source (statements ++ more)) n lines) (omega arith)
   reads_source number (line ∷ source) lines statements more are parsed some =
-      let gives = gives_line number line source statements more (line_of number line) (statements_from (number + 1) source) refl refl parsed in
+      let gives = gives_line number line source statements more (line_meaning number line) (statements_from (number + 1) source) refl refl parsed in
       reads_line (in_source statements) (in_source (statements ++ gives.here)) number line (source ++ lines) (some_behind source lines some) (rw (not_end line are.0.0, not_part line are.0.1) gives.goes)
       ∙ reads_source (number + 1) source lines (statements ++ gives.here) gives.others are.1 gives.parsed some
       ∙ ap (λ these. read_from (in_source these) (number + 1 + length source) lines) (append_assoc statements gives.here gives.others ∙ ap (λ these. statements ++ these) (sym gives.all))

@@ -1,5 +1,5 @@
 -- The programs that were written, one after the other.
-use Rattle.job_text.proofs.Common.{◌≡◌, ℕ, zero, suc, ◌<◌, min, List, [], ◌∷◌, ◌++◌, length, map, take, get_or, codes, refl, sym, ap, ◌∙◌, subst, arith, append_assoc, append-nil, All, flat_map, zip, flat_map-append, length-map, take_all, All-append, All-cons, All-nil, length-zip, Token, Word, Content, end_line, event_line, head_lines, line_text, number_line, program_lines, written, nat_tests}
+use Rattle.job_text.proofs.Common.{◌≡◌, ℕ, zero, suc, ◌<◌, min, List, [], ◌∷◌, ◌++◌, length, map, take, get_or, codes, refl, sym, ap, ◌∙◌, subst, arith, append_assoc, append-nil, All, flat_map, zip, flat_map-append, length-map, take_all, All-append, All-cons, All-nil, length-zip, Token, Word, Content, end_line, event_line, head_lines, token_line, number_line, program_lines, job_written, nat_tests}
 
 -- one pair more
 pub pair_more : {A B C D : Type 0} (f : A → C) (g : B → D) (xs : List A) (ys : List B) (n : ℕ) (x : A) (y : B) → n < length xs → n < length ys → ((d : A) → x ≡ get_or xs n d) → ((d : B) → y ≡ get_or ys n d)
@@ -27,16 +27,16 @@ regroup : (frames programs schedule events end : List ℕ) → (((frames ++ prog
 regroup frames programs schedule events end = simp (append_assoc, append-nil)
 
 -- the text of a job, part by part
-pub job_put : (content : Content) (one two three four five : List ℕ) → one ≡ line_text (number_line (codes "frames") content.frames) → two ≡ one ++ flat_map line_text (flat_map program_lines (zip content.names content.programs))
-    → three ≡ two ++ line_text (Word (codes "schedule") ∷ []) → four ≡ three ++ flat_map line_text (map (event_line content.names) content.events) → five ≡ four ++ line_text end_line → five ≡ written content
+pub job_put : (content : Content) (one two three four five : List ℕ) → one ≡ token_line (number_line (codes "frames") content.frames) → two ≡ one ++ flat_map token_line (flat_map program_lines (zip content.names content.programs))
+    → three ≡ two ++ token_line (Word (codes "schedule") ∷ []) → four ≡ three ++ flat_map token_line (map (event_line content.names) content.events) → five ≡ four ++ token_line end_line → five ≡ job_written content
 job_put content one two three four five put_frames put_programs put_schedule put_events put_end =
     put_end
-    ∙ ap (λ text. text ++ line_text end_line)
-    (put_events ∙ ap (λ text. text ++ flat_map line_text events) (put_schedule ∙ ap (λ text. text ++ line_text (Word (codes "schedule") ∷ [])) (put_programs ∙ ap (λ text. text ++ flat_map line_text programs) put_frames)))
-    ∙ regroup (line_text (number_line (codes "frames") content.frames)) (flat_map line_text programs) (line_text (Word (codes "schedule") ∷ [])) (flat_map line_text events) (line_text end_line)
+    ∙ ap (λ text. text ++ token_line end_line)
+    (put_events ∙ ap (λ text. text ++ flat_map token_line events) (put_schedule ∙ ap (λ text. text ++ token_line (Word (codes "schedule") ∷ [])) (put_programs ∙ ap (λ text. text ++ flat_map token_line programs) put_frames)))
+    ∙ regroup (token_line (number_line (codes "frames") content.frames)) (flat_map token_line programs) (token_line (Word (codes "schedule") ∷ [])) (flat_map token_line events) (token_line end_line)
     ∙ sym
-    (flat_map-append line_text (head_lines content.frames content.names content.programs ++ (Word (codes "schedule") ∷ []) ∷ events) (end_line ∷ [])
-    ∙ ap (λ text. text ++ (line_text end_line ++ [])) (flat_map-append line_text (head_lines content.frames content.names content.programs) ((Word (codes "schedule") ∷ []) ∷ events)))
+    (flat_map-append token_line (head_lines content.frames content.names content.programs ++ (Word (codes "schedule") ∷ []) ∷ events) (end_line ∷ [])
+    ∙ ap (λ text. text ++ (token_line end_line ++ [])) (flat_map-append token_line (head_lines content.frames content.names content.programs) ((Word (codes "schedule") ∷ []) ∷ events)))
   where
     programs : List (List Token)
     programs = flat_map program_lines (zip content.names content.programs)

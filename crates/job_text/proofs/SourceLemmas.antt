@@ -1,5 +1,5 @@
 -- A line that was written has its tokens, and no line feed but its own; and the source that a program is written as.
-use Rattle.job_text.proofs.Common.{◌≡◌, ℕ, pos, ◌+◌, ◌<◌, ◌≤◌, ◌^◌, ◌%◌, Bool, true, false, List, [], ◌∷◌, ◌++◌, length, map, codes, Option, Some, None, Ok, refl, ap, ◌∙◌, arith, from_be_bytes, w32, AllByRecursion, AllZip, map-append, is_label, statement_of, statements_from, Token, Word, IsToken, IsWord, Parts, IsByte, IsLegalPlace, byte_body, image_bodies, made, plain_at, source_bodies, source_made, window_bodies, word_small, exported, linked_alone, HaveNoMark, IsProgram, is_end, is_part, access_text, end_line, image_lines, number_line, program_lines, tokens_text, window_line, window_lines, nat_tests, not, decimal, is_ascii_alphanumeric, flat_map, list_all, is_feed, lines_of, before, begins_word, continues_word, tokens, tokens_past, Number, Comma, and_parts, blank_front, mark_front, number_front, number_pass, word_front, behind_text, token_text}
+use Rattle.job_text.proofs.Common.{◌≡◌, ℕ, pos, ◌+◌, ◌<◌, ◌≤◌, ◌^◌, ◌%◌, Bool, true, false, List, [], ◌∷◌, ◌++◌, length, map, codes, Option, Some, None, Ok, refl, ap, ◌∙◌, arith, from_be_bytes, w32, AllByRecursion, AllZip, map-append, is_label, statement_of, statements_from, Token, Word, IsToken, IsWord, Parts, IsByte, IsLegalPlace, byte_body, image_bodies, made, plain_at, source_bodies, source_made, window_bodies, word_small, exported, linked_alone, HaveNoMark, IsProgram, is_end, is_part, access_text, end_line, image_lines, number_line, program_lines, tokens_text, window_tokens, windows_tokens, nat_tests, not, decimal, is_ascii_alphanumeric, flat_map, list_all, is_feed, text_lines, token_before, begins_word, continues_word, tokens, tokens_past, Number, Comma, and_parts, blank_front, mark_front, number_front, number_pass, word_front, behind_text, token_text}
 use Rattle.flat_machine.specs.declared.machine.Window.{Window as Sight}
 use Rattle.asm_parse.specs.declared.statement.Body.{Body}
 use Rattle.asm_parse.specs.declared.statement.Body.TheVariants.{Data, Window, Entry}
@@ -13,7 +13,7 @@ abbrev plain : ℕ → Bool
 plain byte = not (is_feed byte)
 
 -- a token at the front of a line
-token_front : (token : Token) (tail : List ℕ) → IsToken token → Stops continues_word tail → tokens_past (token_text token ++ tail) 0 ≡ before token (tokens_past tail 0)
+token_front : (token : Token) (tail : List ℕ) → IsToken token → Stops continues_word tail → tokens_past (token_text token ++ tail) 0 ≡ token_before token (tokens_past tail 0)
 token_front token tail is stops = grind (arith, word_front, number_front, mark_front)
 
 behind_stops : (others : List Token) → Stops continues_word (flat_map behind_text others)
@@ -24,17 +24,17 @@ behind_stops (_ ∷ others) = refl
 -- tokens behind the first of a line
 behind_front : (others : List Token) → AllByRecursion IsToken others → tokens_past (flat_map behind_text others) 0 ≡ Ok others
 behind_front [] are = from_none
-behind_front (Comma ∷ others) are = mark_front Comma 44 (flat_map behind_text others) refl ∙ ap (before Comma) (behind_front others are.1)
+behind_front (Comma ∷ others) are = mark_front Comma 44 (flat_map behind_text others) refl ∙ ap (token_before Comma) (behind_front others are.1)
 behind_front (token ∷ others) are =
     blank_front (token_text token ++ flat_map behind_text others)
     ∙ token_front token (flat_map behind_text others) are.0 (behind_stops others)
-    ∙ ap (before token) (behind_front others are.1)
+    ∙ ap (token_before token) (behind_front others are.1)
 
 -- a line that was written has its tokens
 pub written_tokens : (found : List Token) → AllByRecursion IsToken found → tokens (tokens_text found) ≡ Ok found
 written_tokens [] are = from_none
 written_tokens (first ∷ others) are =
-    token_front first (flat_map behind_text others) are.0 (behind_stops others) ∙ ap (before first) (behind_front others are.1)
+    token_front first (flat_map behind_text others) are.0 (behind_stops others) ∙ ap (token_before first) (behind_front others are.1)
 
 begins_plain : (byte : ℕ) → begins_word byte ≡ true → plain byte ≡ true
 begins_plain byte e = grind (arith, nat_tests)
@@ -63,12 +63,12 @@ pub written_plain : (found : List Token) → AllByRecursion IsToken found → li
 written_plain found are = grind (arith, nat_tests, list_all-append, token_plain, behind_plain)
 
 -- bytes with no line feed, and a line feed, are a line
-split_line : (line rest : List ℕ) → list_all plain line ≡ true → lines_of (line ++ 10 ∷ rest) ≡ line ∷ lines_of rest
+split_line : (line rest : List ℕ) → list_all plain line ≡ true → text_lines (line ++ 10 ∷ rest) ≡ line ∷ text_lines rest
 split_line [] rest pass = refl
 split_line (byte ∷ line) rest pass = grind (arith, nat_tests, split_line line rest, and_parts)
 
 -- a line that was written is the first line of its text
-pub written_line : (found : List Token) (rest : List ℕ) → AllByRecursion IsToken found → lines_of (tokens_text found ++ 10 ∷ rest) ≡ tokens_text found ∷ lines_of rest
+pub written_line : (found : List Token) (rest : List ℕ) → AllByRecursion IsToken found → text_lines (tokens_text found ++ 10 ∷ rest) ≡ tokens_text found ∷ text_lines rest
 written_line found rest are = split_line (tokens_text found) rest (written_plain found are)
 
 -- what holds of two lists holds of both
@@ -96,7 +96,7 @@ byte_source byte small = record { tokens = ((refl, refl, omega arith), (omega ar
 access_word : (write : Bool) → IsWord (access_text write)
 access_word write = grind arith
 
-window_source : (register : ℕ) (window : Sight) → register < 2 ^ 32 → window.segment ≤ 3839 → IsSourceLine (window_line register window) (Window register window.segment window.write)
+window_source : (register : ℕ) (window : Sight) → register < 2 ^ 32 → window.segment ≤ 3839 → IsSourceLine (window_tokens register window) (Window register window.segment window.write)
 window_source register window small legal = record {
   tokens = ((refl, refl, omega arith), (small, (tt, (omega arith, (tt, (access_word window.write, tt))))));
   on = refl;
@@ -115,7 +115,7 @@ image_sources bytes are = bytes_sources bytes are
 
 -- windows, and an image behind them
 windows_sources : (register : ℕ) (windows : List (Option Sight)) (bytes : List ℕ) → register + length windows ≤ 16 → AllByRecursion IsLegalPlace windows → AllByRecursion IsByte bytes
-    → AllZip IsSourceLine (window_lines register windows ++ image_lines bytes) (window_bodies register windows ++ image_bodies bytes)
+    → AllZip IsSourceLine (windows_tokens register windows ++ image_lines bytes) (window_bodies register windows ++ image_bodies bytes)
 windows_sources register [] bytes small legal are = image_sources bytes are
 windows_sources register (None ∷ windows) bytes small legal are = windows_sources (register + 1) windows bytes (omega arith) legal.1 are
 windows_sources register (Some window ∷ windows) bytes small legal are = grind (arith, window_source register window (omega arith) legal.0.1, windows_sources (register + 1) windows bytes (omega arith) legal.1 are)
@@ -164,7 +164,7 @@ module _ (number : ℕ) (name : List ℕ) (parts : Parts) (is_word : IsWord name
   head_tokens = ((refl, refl, omega arith), (is_word, tt))
 
   abbrev source : List (List Token)
-  source = number_line (codes ".entry") parts.entry ∷ window_lines 1 parts.windows ++ image_lines parts.image
+  source = number_line (codes ".entry") parts.entry ∷ windows_tokens 1 parts.windows ++ image_lines parts.image
 
   sources : AllZip IsSourceLine source (source_bodies parts)
   sources = (entry_source parts.entry sound.entry, windows_sources 1 parts.windows parts.image (omega arith) legal sound.bytes)

@@ -1,5 +1,5 @@
 -- The text that a job is written as has the form of the job, and is short.
-use Rattle.job_text.proofs.Common.{◌≡◌, inl, inr, ℕ, zero, suc, ◌+◌, ◌<◌, ◌≤◌, ◌^◌, true, List, [], ◌∷◌, ◌++◌, length, map, codes, slice_index_or, Some, refl, sym, ap, ◌∙◌, subst, arith, append_assoc, append-nil, length-append, bytes_eq, AllByRecursion, flat_map, zip, map-append, position-Some, bytes_eq-Decides, Event, Begin, Turn, Checkpoint, Crash, Token, Word, Number, place_among, is_label, lines_of, found_tokens, IsToken, IsWord, Parts, assembled_windows, linked_made, Content, HasPrograms, IsBegin, IsLimit, IsNoBegin, IsEventLine, HasEvents, IsJobText, four_of, rounds_of, turns_to, end_line, event_line, job_lines, line_text, number_line, program_lines, tokens_text, written, nat_tests, ◌*◌, decimal, Option, None, from_be_bytes, w32, Comma, behind_text, image_lines, token_text, window_line, window_lines}
+use Rattle.job_text.proofs.Common.{◌≡◌, inl, inr, ℕ, zero, suc, ◌+◌, ◌<◌, ◌≤◌, ◌^◌, true, List, [], ◌∷◌, ◌++◌, length, map, codes, slice_index_or, Some, refl, sym, ap, ◌∙◌, subst, arith, append_assoc, append-nil, length-append, bytes_eq, AllByRecursion, flat_map, zip, map-append, position-Some, bytes_eq-Decides, Event, Begin, Turn, Checkpoint, Crash, Token, Word, Number, place_among, is_label, text_lines, found_tokens, IsToken, IsWord, Parts, assembled_windows, linked_made, Content, HasPrograms, IsBeginLine, IsLimit, IsNoBegin, IsEventLine, HasEvents, IsJobText, four_of, rounds_of, turns_to, end_line, event_line, job_lines, token_line, number_line, program_lines, tokens_text, job_written, nat_tests, ◌*◌, decimal, Option, None, from_be_bytes, w32, Comma, behind_text, image_lines, token_text, window_tokens, windows_tokens}
 use Rattle.job_text.proofs.SourceLemmas.{IsSound, all_both, end_tokens, program_form, program_tokens, written_line, written_tokens}
 use Rattle.std.proofs.lemmas.Fmt.{length-decimal-le}
 use Rattle.flat_machine.specs.declared.machine.Window.{Window as Sight}
@@ -12,7 +12,7 @@ abbrev pub AllSound : List Parts → Type 0
 AllSound programs = AllByRecursion IsSound programs
 
 -- the lines of a text that was written
-lines_written : (lines : List (List Token)) (rest : List ℕ) → AreTokens lines → lines_of (flat_map line_text lines ++ rest) ≡ map tokens_text lines ++ lines_of rest
+lines_written : (lines : List (List Token)) (rest : List ℕ) → AreTokens lines → text_lines (flat_map token_line lines ++ rest) ≡ map tokens_text lines ++ text_lines rest
 lines_written [] rest are = refl
 lines_written (line ∷ lines) rest are = grind (arith, nat_tests, lines_written lines rest, append_assoc, written_line)
 
@@ -74,7 +74,7 @@ module _ (names : List (List ℕ)) where
   value_small (value ∷ values) zero are = are.0
   value_small (value ∷ values) (suc i) are = value_small values i are.1
 
-  begin_written : (begins : ℕ) (found : List Token) (here later : List Event) → AllByRecursion IsToken found → IsBegin names found here → AreWritten (begins + 1) later → AreWritten begins (here ++ later)
+  begin_written : (begins : ℕ) (found : List Token) (here later : List Event) → AllByRecursion IsToken found → IsBeginLine names found here → AreWritten (begins + 1) later → AreWritten begins (here ++ later)
   begin_written begins found here later are is others =
       let there = name_there is.name is.program is.known in
       let these : AllByRecursion IsToken (Word (codes "begin") ∷ Word is.name ∷ map Number is.values) = subst (AllByRecursion IsToken) is.says are in
@@ -155,7 +155,7 @@ module _ (text : List ℕ) (content : Content) (form : IsJobText text content) (
   pub job_tokens : AreTokens (job_lines content)
   job_tokens = grind (arith, nat_tests, all_both, frames_tokens, programs_are, schedule_tokens, events_are, end_tokens)
 
-  pub written_form : IsJobText (written content) content
+  pub written_form : IsJobText (job_written content) content
   written_form = record {
     blank = [];
     frames_line = tokens_text frames;
@@ -164,7 +164,7 @@ module _ (text : List ℕ) (content : Content) (form : IsJobText text content) (
     event_lines = map tokens_text events;
     end_line = tokens_text end_line;
     tail = [];
-    all = ap lines_of (sym (append-nil (written content)))
+    all = ap text_lines (sym (append-nil (job_written content)))
         ∙ lines_written (job_lines content) [] job_tokens
         ∙ ap (λ lines. lines ++ ([] ∷ [])) (map-append tokens_text (head ++ (schedule ∷ events)) (end_line ∷ []) ∙ ap (λ lines. lines ++ (tokens_text end_line ∷ [])) (map-append tokens_text head (schedule ∷ events)))
         ∙ append_assoc (map tokens_text head ++ map tokens_text (schedule ∷ events)) (tokens_text end_line ∷ []) ([] ∷ [])
@@ -198,15 +198,15 @@ behind_short (token ∷ others) are =
     omega (arith, length-append (token_text token) (flat_map behind_text others), token_short token are.0, behind_short others are.1)
 
 -- a line of tokens has at most 32 bytes for each of them, and its line feed
-line_short : (line : List Token) → AllByRecursion IsToken line → length (line_text line) ≤ 32 * length line + 1
+line_short : (line : List Token) → AllByRecursion IsToken line → length (token_line line) ≤ 32 * length line + 1
 line_short line are = grind (arith, nat_tests, length-append, token_short, behind_short)
 
 -- the bytes of lines
 abbrev bytes_in : List (List Token) → ℕ
-bytes_in lines = length (flat_map line_text lines)
+bytes_in lines = length (flat_map token_line lines)
 
-line_before : (line : List Token) (lines : List (List Token)) → bytes_in (line ∷ lines) ≡ length (line_text line) + bytes_in lines
-line_before line lines = length-append (line_text line) (flat_map line_text lines)
+line_before : (line : List Token) (lines : List (List Token)) → bytes_in (line ∷ lines) ≡ length (token_line line) + bytes_in lines
+line_before line lines = length-append (token_line line) (flat_map token_line lines)
 
 both_bytes : (xs ys : List (List Token)) → bytes_in (xs ++ ys) ≡ bytes_in xs + bytes_in ys
 both_bytes [] ys = omega arith
@@ -221,7 +221,7 @@ abbrev AreLine : List Token → Type 0
 AreLine line = AllByRecursion IsToken line
 
 -- a `.word` or a `.byte`
-data_short : (word : List ℕ) (number : ℕ) → length word ≤ 5 → number < 2 ^ 32 → length (line_text (number_line word number)) ≤ 17
+data_short : (word : List ℕ) (number : ℕ) → length word ≤ 5 → number < 2 ^ 32 → length (token_line (number_line word number)) ≤ 17
 data_short word number short small = grind (arith, length-append, number_short number small)
 
 image_short : (bytes : List ℕ) → AreTokens (image_lines bytes) → 4 * bytes_in (image_lines bytes) ≤ 17 * length bytes + 153
@@ -235,16 +235,16 @@ image_short (a ∷ b ∷ c ∷ d ∷ bytes) are =
     let word = from_be_bytes w32 (a ∷ b ∷ c ∷ d ∷ []) in
     omega (arith, line_before (number_line (codes ".word") word) (image_lines bytes), data_short (codes ".word") word (omega arith) are.0.1.0, image_short bytes are.1)
 
-windows_short : (register : ℕ) (windows : List (Option Sight)) → AreTokens (window_lines register windows) → bytes_in (window_lines register windows) ≤ 193 * length windows
+windows_short : (register : ℕ) (windows : List (Option Sight)) → AreTokens (windows_tokens register windows) → bytes_in (windows_tokens register windows) ≤ 193 * length windows
 windows_short register [] are = omega arith
 windows_short register (None ∷ windows) are = omega (arith, windows_short (register + 1) windows are)
-windows_short register (Some window ∷ windows) are = grind (arith, line_before (window_line register window) (window_lines (register + 1) windows), line_short (window_line register window) are.0, windows_short (register + 1) windows are.1)
+windows_short register (Some window ∷ windows) are = grind (arith, line_before (window_tokens register window) (windows_tokens (register + 1) windows), line_short (window_tokens register window) are.0, windows_short (register + 1) windows are.1)
 
 program_short : (name : List ℕ) (parts : Parts) → AreTokens (program_lines (name, parts)) → length parts.image ≤ 16384 → length parts.windows ≡ 15 → bytes_in (program_lines (name, parts)) ≤ 73000
 program_short name parts are few long =
     let head = Word (codes "program") ∷ Word name ∷ [] in
     let entry = number_line (codes ".entry") parts.entry in
-    let windows = window_lines 1 parts.windows in
+    let windows = windows_tokens 1 parts.windows in
     let image = image_lines parts.image in
     let both = both_parts AreLine (windows ++ image) (end_line ∷ []) are.1.1 in
     let source = both_parts AreLine windows image both.0 in
@@ -316,7 +316,7 @@ module _ (names : List (List ℕ)) where
       grind (arith, nat_tests, before, line_short, numbers_many, events_short events four.1 are.1)
 
 -- what a job of some text is written as has fewer than 2^23 bytes
-pub written_short : (text : List ℕ) (content : Content) (form : IsJobText text content) → AllSound content.programs → length (written content) < 2 ^ 23
+pub written_short : (text : List ℕ) (content : Content) (form : IsJobText text content) → AllSound content.programs → length (job_written content) < 2 ^ 23
 written_short text content form sound =
     let frames = number_line (codes "frames") content.frames in
     let programs = flat_map program_lines (zip content.names content.programs) in

@@ -3,8 +3,8 @@ pub use Rattle.std.specs.List.{All, AllByRecursion, flat_map, list_all, range_wi
 pub use Rattle.std.specs.Str.{bytes_eq}
 pub use Rattle.arrayvec.specs.ArrayVec.{ArrayVec}
 pub use Rattle.asm_parse.specs.Operand.{place_among}
-pub use Rattle.asm_parse.specs.Statement.{is_label, line_of, statement_by}
-pub use Rattle.asm_parse.specs.Text.{at_line, lines_of, statements_from}
+pub use Rattle.asm_parse.specs.Statement.{is_label, line_meaning, statement_by}
+pub use Rattle.asm_parse.specs.Text.{at_line, text_lines, statements_from}
 pub use Rattle.asm_parse.specs.Token.{continues_word, tokens}
 pub use Rattle.asm_parse.specs.declared.statement.Statement.{Statement}
 pub use Rattle.asm_parse.specs.declared.token.Token.{Token}

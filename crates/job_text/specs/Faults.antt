@@ -1,6 +1,6 @@
 -- A fault of a program's sources as one of its job.
-use Rattle.romp_asm.specs.declared.fault.LinkFault.{LinkFault}
-use Rattle.romp_asm.specs.declared.fault.LinkFault.TheVariants as link
+use Rattle.romp_asm.specs.declared.link_fault.LinkFault.{LinkFault}
+use Rattle.romp_asm.specs.declared.link_fault.LinkFault.TheVariants as link
 use Rattle.job_text.specs.declared.job.JobFault.{JobFault}
 use Rattle.job_text.specs.declared.job.JobFault.TheVariants.{Fault, Memory}
 

@@ -1,6 +1,6 @@
 -- The form of a job's text: which lines stand in it, one after another, and what they say.
 use Rattle.std.specs.Prelude.{◌≡◌, ◌⊎◌, ◌↔◌, ℕ, ◌+◌, ◌≤◌, true, List, [], ◌∷◌, ◌++◌, length, map, codes, Some, None, Ok, Err}
-use Rattle.job_text.specs.Below.{AllByRecursion, Begin, Checkpoint, Crash, Event, is_label, lines_of, linked, Number, Parts, place_among, Statement, statements_from, Token, tokens, Turn, Word}
+use Rattle.job_text.specs.Below.{AllByRecursion, Begin, Checkpoint, Crash, Event, is_label, text_lines, linked, Number, Parts, place_among, Statement, statements_from, Token, tokens, Turn, Word}
 use Rattle.job_text.specs.Grammar.{Content, job_of}
 use Rattle.job_text.specs.Reading.{four_of, rounds_of}
 
@@ -58,7 +58,7 @@ HasPrograms others number (name ∷ names) (parts ∷ programs) lines =
 HasPrograms others number _ _ lines = ⊥
 
 -- `begin NAME v ..`: a known program and none to four values
-pub record IsBegin (names : List (List ℕ)) (found : List Token) (events : List Event) : Type 0 where
+pub record IsBeginLine (names : List (List ℕ)) (found : List Token) (events : List Event) : Type 0 where
   pub name : List ℕ
   pub program : ℕ
   pub values : List ℕ
@@ -103,7 +103,7 @@ IsNoBegin begins found events = ((found ≡ []) × (events ≡ [])) ⊎ IsTurn b
 -- a line of the schedule and its events, where so many begins stand before it and so many behind
 abbrev pub IsEventLine : (names : List (List ℕ)) → (begins after : ℕ) → List Token → List Event → Type 0
 IsEventLine names begins after found events =
-    (IsBegin names found events × (after ≡ begins + 1)) ⊎ (IsNoBegin begins found events × (after ≡ begins))
+    (IsBeginLine names found events × (after ≡ begins + 1)) ⊎ (IsNoBegin begins found events × (after ≡ begins))
 
 -- lines of a schedule and their events in order, where so many begins stand before
 abbrev pub HasEvents : (names : List (List ℕ)) → (begins : ℕ) → (lines : List (List ℕ)) → List Event → Type 0
@@ -121,7 +121,7 @@ pub record IsJobText (text : List ℕ) (content : Content) : Type 0 where
   pub event_lines : List (List ℕ)
   pub end_line : List ℕ
   pub tail : List (List ℕ)
-  pub all : lines_of text ≡ blank ++ (frames_line ∷ program_lines ++ (schedule_line ∷ event_lines ++ (end_line ∷ tail ++ ([] ∷ []))))
+  pub all : text_lines text ≡ blank ++ (frames_line ∷ program_lines ++ (schedule_line ∷ event_lines ++ (end_line ∷ tail ++ ([] ∷ []))))
   pub blanks : AreBlank blank
   pub frames : IsFramesLine content.frames frames_line
   pub programs : HasPrograms [] (length blank + 2) content.names content.programs program_lines
@@ -139,5 +139,5 @@ JobsHaveTheirForm = (text : List ℕ) (content : Content) → (job_of text ≡ O
 -- a fault ends the reading: it is kind 10 of what stands behind a text's last line feed, or each text that begins with all its lines has it
 abbrev pub FaultsEndTheReading : Type 0
 FaultsEndTheReading =
-    (text other : List ℕ) (lines more : List (List ℕ)) (last next : List ℕ) (fault : ℕ × ℕ) → lines_of text ≡ lines ++ (last ∷ []) → lines_of other ≡ lines ++ (next ∷ more) → job_of text ≡ Err fault
+    (text other : List ℕ) (lines more : List (List ℕ)) (last next : List ℕ) (fault : ℕ × ℕ) → text_lines text ≡ lines ++ (last ∷ []) → text_lines other ≡ lines ++ (next ∷ more) → job_of text ≡ Err fault
     → (fault ≡ (length lines + 1, 10)) ⊎ (job_of other ≡ Err fault)

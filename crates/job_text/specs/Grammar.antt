@@ -1,6 +1,6 @@
 -- The job that a text is, or its first fault.
 use Rattle.std.specs.Prelude.{ℕ, ◌+◌, List, [], ◌∷◌, map, Result, Ok, Err}
-use Rattle.job_text.specs.Below.{ArrayVec, Event, lines_of, Parts, parts_of}
+use Rattle.job_text.specs.Below.{ArrayVec, Event, text_lines, Parts, parts_of}
 use Rattle.job_text.specs.declared.stage.Stage.{Stage}
 use Rattle.job_text.specs.declared.stage.Stage.TheVariants.{Ended}
 use Rattle.job_text.specs.declared.job.Job.{Job}
@@ -23,14 +23,14 @@ content_of job = record {
 }
 
 -- what has been read at the end of a text; a line that is owed is a fault of kind 10 of the line after the last
-abbrev pub whole : Stage → Reading → ℕ → Result Content (ℕ × ℕ)
-whole Ended reading number =
+abbrev pub whole_job : Stage → Reading → ℕ → Result Content (ℕ × ℕ)
+whole_job Ended reading number =
     Ok (record { frames = reading.frames; names = reading.names; programs = reading.programs; events = reading.events })
-whole _ reading number = Err (number, 10)
+whole_job _ reading number = Err (number, 10)
 
 -- what stands behind the last line feed: nothing, or a fault of kind 10
 abbrev pub last_part : Reading → ℕ → List ℕ → Result Content (ℕ × ℕ)
-last_part reading number [] = whole reading.stage reading number
+last_part reading number [] = whole_job reading.stage reading number
 last_part reading number (byte ∷ bytes) = Err (number, 10)
 
 -- what a reading gives, if there is one
@@ -47,4 +47,4 @@ read_from reading number (line ∷ next ∷ lines) =
 
 -- what the job of a text says, or the text's first fault as its line and kind
 abbrev pub job_of : List ℕ → Result Content (ℕ × ℕ)
-job_of text = read_from nothing_read 1 (lines_of text)
+job_of text = read_from nothing_read 1 (text_lines text)

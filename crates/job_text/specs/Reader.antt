@@ -1,7 +1,7 @@
 -- What a reader of jobs has read.
 use Rattle.std.specs.Prelude.{◌≡◌, ℕ, ◌+◌, if◌then◌else◌, List, length, sum_by, map, Result, Ok, Err, ◌∷◌, ◌<◌}
-use Rattle.job_text.specs.Below.{ArrayVec, at_line, linked, parts_of, statement_by, Token, lines_of}
-use Rattle.asm_parse.specs.declared.fault.LineFault.{LineFault}
+use Rattle.job_text.specs.Below.{ArrayVec, at_line, linked, parts_of, statement_by, Token, text_lines}
+use Rattle.asm_parse.specs.declared.asm_fault.LineFault.{LineFault}
 use Rattle.asm_parse.specs.Answers.{IsFaultOf}
 use Rattle.job_text.specs.declared.job.JobFault.{JobFault}
 use Rattle.job_text.specs.declared.reader.Reader.{Reader}
@@ -51,15 +51,15 @@ found_read Schedule reading number found = at_line number (by_tokens (schedule_l
 found_read Ended reading number found = at_line number (by_tokens (ended_line reading) found)
 
 -- a reader has read what a line's tokens give, or the fault is theirs
-abbrev pub IsStep : {A : Type 0} → Result A LineFault → Reader → Result Reading ℕ → Type 0
-IsStep (Ok value) new reading = reading ≡ Ok (reading_of new)
-IsStep (Err fault) new reading = IsFaultOf fault reading
+abbrev pub AreTokensRead : {A : Type 0} → Result A LineFault → Reader → Result Reading ℕ → Type 0
+AreTokensRead (Ok value) new reading = reading ≡ Ok (reading_of new)
+AreTokensRead (Err fault) new reading = IsFaultOf fault reading
 
 -- a reader has read what a line gives, or the fault is the line's
-abbrev pub IsRead : {A : Type 0} → Result A JobFault → Reader → Result Reading (ℕ × ℕ) → Type 0
-IsRead (Ok value) new reading = reading ≡ Ok (reading_of new)
-IsRead (Err fault) new reading = IsJobFaultOf fault reading
+abbrev pub IsReadingOf : {A : Type 0} → Result A JobFault → Reader → Result Reading (ℕ × ℕ) → Type 0
+IsReadingOf (Ok value) new reading = reading ≡ Ok (reading_of new)
+IsReadingOf (Err fault) new reading = IsJobFaultOf fault reading
 
 -- the lines of a text are a first one and those of the rest, which is shorter
 abbrev pub IsCut : (text line rest : List ℕ) → Type 0
-IsCut text line rest = (lines_of text ≡ line ∷ lines_of rest) × (length rest < length text)
+IsCut text line rest = (text_lines text ≡ line ∷ text_lines rest) × (length rest < length text)

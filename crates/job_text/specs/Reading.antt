@@ -1,6 +1,6 @@
 -- What has been read of a job's text, line by line.
 use Rattle.std.specs.Prelude.{ℕ, ◌+◌, ◌*◌, zero, suc, nat_lt, nat_le, ◌&&◌, is_some, if◌then◌else◌, Bool, false, List, [], ◌∷◌, ◌++◌, length, slice_index, codes, Option, Some, None, Result, Ok, Err}
-use Rattle.job_text.specs.Below.{at_line, Begin, bytes_eq, Checkpoint, Crash, Event, is_label, line_of, linked, Number, Parts, place_among, Statement, Token, tokens, Turn, Word}
+use Rattle.job_text.specs.Below.{at_line, Begin, bytes_eq, Checkpoint, Crash, Event, is_label, line_meaning, linked, Number, Parts, place_among, Statement, Token, tokens, Turn, Word}
 use Rattle.job_text.specs.declared.stage.Stage.{Stage}
 use Rattle.job_text.specs.declared.stage.Stage.TheVariants.{Frames, Programs, Source, Schedule, Ended}
 
@@ -79,7 +79,7 @@ abbrev pub source_line : Reading → ℕ → List ℕ → Result Reading (ℕ ×
 source_line reading number line =
     if is_end (tokens line) then program_ends reading (linked (sources_of reading))
     else if is_part (tokens line) then at_line number (source_ends reading)
-    else source_goes_on reading (at_line number (line_of number line))
+    else source_goes_on reading (at_line number (line_meaning number line))
 
 -- one event more; with more than 10,000 it is kind 11
 abbrev pub with_event : Reading → Event → Result Reading ℕ

@@ -29,8 +29,8 @@ tokens_text [] = []
 tokens_text (first ∷ others) = token_text first ++ flat_map behind_text others
 
 -- a line with its line feed
-abbrev pub line_text : List Token → List ℕ
-line_text tokens = tokens_text tokens ++ 10 ∷ []
+abbrev pub token_line : List Token → List ℕ
+token_line tokens = tokens_text tokens ++ 10 ∷ []
 
 -- a word, and a number behind it
 abbrev pub number_line : List ℕ → ℕ → List Token
@@ -41,15 +41,15 @@ abbrev pub access_text : Bool → List ℕ
 access_text write = if write then codes "rw" else codes "r"
 
 -- `.window I, S, r` or `rw`
-abbrev pub window_line : ℕ → Window → List Token
-window_line register window =
+abbrev pub window_tokens : ℕ → Window → List Token
+window_tokens register window =
     Word (codes ".window") ∷ Number register ∷ Comma ∷ Number window.segment ∷ Comma ∷ Word (access_text window.write) ∷ []
 
 -- a line for each window that is there, where the first place is that of this register
-abbrev pub window_lines : ℕ → List (Option Window) → List (List Token)
-window_lines register [] = []
-window_lines register (None ∷ windows) = window_lines (register + 1) windows
-window_lines register (Some window ∷ windows) = window_line register window ∷ window_lines (register + 1) windows
+abbrev pub windows_tokens : ℕ → List (Option Window) → List (List Token)
+windows_tokens register [] = []
+windows_tokens register (None ∷ windows) = windows_tokens (register + 1) windows
+windows_tokens register (Some window ∷ windows) = window_tokens register window ∷ windows_tokens (register + 1) windows
 
 -- a `.word` for each four bytes, and a `.byte` for each that is left
 abbrev pub image_lines : List ℕ → List (List Token)
@@ -63,7 +63,7 @@ end_line = Word (codes "end") ∷ []
 -- the entry address, the windows and the image of a program, and its `end`
 abbrev pub source_lines : Parts → List (List Token)
 source_lines parts =
-    number_line (codes ".entry") parts.entry ∷ window_lines 1 parts.windows ++ image_lines parts.image ++ end_line ∷ []
+    number_line (codes ".entry") parts.entry ∷ windows_tokens 1 parts.windows ++ image_lines parts.image ++ end_line ∷ []
 
 -- a program from its name to its `end`
 abbrev pub program_lines : List ℕ × Parts → List (List Token)
@@ -87,8 +87,8 @@ job_lines content =
     ++ (Word (codes "schedule") ∷ []) ∷ map (event_line content.names) content.events ++ end_line ∷ []
 
 -- the text of a job's lines
-abbrev pub written : Content → List ℕ
-written content = flat_map line_text (job_lines content)
+abbrev pub job_written : Content → List ℕ
+job_written content = flat_map token_line (job_lines content)
 
 -- numbers that bytes hold
 abbrev pub AreBytes : List ℕ → Type 0
@@ -104,11 +104,11 @@ named_programs names programs = zip (texts_of names) (map parts_of programs)
 
 -- a line was added to a text, with its line feed
 abbrev pub AddsLine : (old new : Vec ℕ Global) → List Token → Type 0
-AddsLine old new line = new.items ≡ old.items ++ line_text line
+AddsLine old new line = new.items ≡ old.items ++ token_line line
 
 -- lines were added to a text, each with its line feed
 abbrev pub AddsLines : (old new : Vec ℕ Global) → List (List Token) → Type 0
-AddsLines old new lines = new.items ≡ old.items ++ flat_map line_text lines
+AddsLines old new lines = new.items ≡ old.items ++ flat_map token_line lines
 
 -- where some text is a job that says this, this one has fewer than 2^23 bytes
 abbrev pub HasShortText : Content → (text : List ℕ) → Type 0

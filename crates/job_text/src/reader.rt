@@ -52,7 +52,7 @@ pub(crate) struct Reader {
 impl Reader {
     ghost use Rattle.romp_asm.specs.Linked.{linked};
     ghost use Rattle.job_text.specs.Reading.{begin_line, begin_of, drain_line, ended_line, frames_line, line_read, nothing_read, program_begins, program_ends, programs_line, schedule_line, single_line, source_ends, sources_of, turn_line, with_event};
-    ghost use Rattle.job_text.specs.Reader.{IsRead, IsStep, found_read, held, reading_of, source_found, tokens_read};
+    ghost use Rattle.job_text.specs.Reader.{IsReadingOf, AreTokensRead, found_read, held, reading_of, source_found, tokens_read};
 
     /// Nothing yet.
     pub fn new(alloc: Global) -> Self
@@ -79,7 +79,7 @@ impl Reader {
         line: &[u8],
     ) -> Result<(), JobFault>
         requires { held self.old ≤ 2 ^ 30 }
-        ensures read { IsRead result self.new (line_read self.old.stage (reading_of self.old) number line.now) }
+        ensures read { IsReadingOf result self.new (line_read self.old.stage (reading_of self.old) number line.now) }
         ensures few { held self.new ≤ held self.old + 1 }
     {
         match tokens_into(room, line) {
@@ -95,7 +95,7 @@ impl Reader {
     /// Reads the tokens of one line more.
     fn found(&mut self, alloc: Global, number: u32, found: &[Token]) -> Result<(), JobFault>
         requires { held self.old ≤ 2 ^ 30 }
-        ensures read { IsRead result self.new (found_read self.old.stage (reading_of self.old) number (Ok found.now)) }
+        ensures read { IsReadingOf result self.new (found_read self.old.stage (reading_of self.old) number (Ok found.now)) }
         ensures few { held self.new ≤ held self.old + 1 }
     {
         if self.stage == Stage::Source {
@@ -110,7 +110,7 @@ impl Reader {
 
     /// Reads the tokens of a line that is no source line.
     fn tokens(&mut self, tokens: &[Token]) -> Result<(), LineFault>
-        ensures read { IsStep result self.new (tokens_read self.old.stage (reading_of self.old) tokens.now) }
+        ensures read { AreTokensRead result self.new (tokens_read self.old.stage (reading_of self.old) tokens.now) }
         ensures few { held self.new ≤ held self.old }
     {
         match self.stage {
@@ -124,7 +124,7 @@ impl Reader {
 
     /// `frames FRAMES`.
     fn frames_line(&mut self, tokens: &[Token]) -> Result<(), LineFault>
-        ensures read { IsStep result self.new (frames_line (reading_of self.old) tokens.now) }
+        ensures read { AreTokensRead result self.new (frames_line (reading_of self.old) tokens.now) }
         ensures few { held self.new ≤ held self.old }
     {
         match tokens {
@@ -143,7 +143,7 @@ impl Reader {
 
     /// `program NAME` or `schedule`.
     fn programs_line(&mut self, tokens: &[Token]) -> Result<(), LineFault>
-        ensures read { IsStep result self.new (programs_line (reading_of self.old) tokens.now) }
+        ensures read { AreTokensRead result self.new (programs_line (reading_of self.old) tokens.now) }
         ensures few { held self.new ≤ held self.old }
     {
         match tokens {
@@ -160,7 +160,7 @@ impl Reader {
 
     /// A program of this name begins.
     fn program_begins(&mut self, name: &Word) -> Result<(), LineFault>
-        ensures read { IsStep result self.new (program_begins (reading_of self.old) name.now) }
+        ensures read { AreTokensRead result self.new (program_begins (reading_of self.old) name.now) }
         ensures few { held self.new ≤ held self.old }
     {
         if place_of(self.names.as_slice(), name.as_bytes()).is_some() {
@@ -179,7 +179,7 @@ impl Reader {
     /// A line between `program` and its `end`.
     fn source_line(&mut self, alloc: Global, number: u32, found: &[Token]) -> Result<(), JobFault>
         requires { held self.old ≤ 2 ^ 30 }
-        ensures read { IsRead result self.new (source_found (reading_of self.old) number (Ok found.now)) }
+        ensures read { IsReadingOf result self.new (source_found (reading_of self.old) number (Ok found.now)) }
         ensures few { held self.new ≤ held self.old + 1 }
     {
         if is_end(found) {
@@ -202,7 +202,7 @@ impl Reader {
     /// The `end` of a program.
     fn program_ends(&mut self, alloc: Global) -> Result<(), JobFault>
         requires { held self.old ≤ 2 ^ 30 }
-        ensures read { IsRead result self.new (program_ends (reading_of self.old) (linked (sources_of (reading_of self.old)))) }
+        ensures read { IsReadingOf result self.new (program_ends (reading_of self.old) (linked (sources_of (reading_of self.old)))) }
         ensures few { held self.new ≤ held self.old }
     {
         let last = mem::replace(&mut self.statements, Statements::new(alloc));
@@ -229,7 +229,7 @@ impl Reader {
 
     /// A `.part`, which ends a source.
     fn source_ends(&mut self, alloc: Global) -> Result<(), LineFault>
-        ensures read { IsStep result self.new (source_ends (reading_of self.old)) }
+        ensures read { AreTokensRead result self.new (source_ends (reading_of self.old)) }
         ensures few { held self.new ≤ held self.old }
     {
         if self.sources.len() + 1 >= MOST_SOURCES {
@@ -242,7 +242,7 @@ impl Reader {
 
     /// An event, or the `end` of the schedule.
     fn schedule_line(&mut self, tokens: &[Token]) -> Result<(), LineFault>
-        ensures read { IsStep result self.new (schedule_line (reading_of self.old) tokens.now) }
+        ensures read { AreTokensRead result self.new (schedule_line (reading_of self.old) tokens.now) }
         ensures few { held self.new ≡ held self.old }
     {
         match tokens {
@@ -265,7 +265,7 @@ impl Reader {
 
     /// `end`, `checkpoint` or `crash`.
     fn single_line(&mut self, word: &str) -> Result<(), LineFault>
-        ensures read { IsStep result self.new (single_line (reading_of self.old) word.now) }
+        ensures read { AreTokensRead result self.new (single_line (reading_of self.old) word.now) }
         ensures few { held self.new ≡ held self.old }
     {
         if word == "end" {
@@ -283,7 +283,7 @@ impl Reader {
 
     /// `begin NAME v ..`.
     fn begin_line(&mut self, name: &Word, values: &[Token]) -> Result<(), LineFault>
-        ensures read { IsStep result self.new (begin_line (reading_of self.old) name.now (values_of values.now)) }
+        ensures read { AreTokensRead result self.new (begin_line (reading_of self.old) name.now (values_of values.now)) }
         ensures few { held self.new ≡ held self.old }
     {
         let Some(args) = args_of(values) else {
@@ -305,7 +305,7 @@ impl Reader {
 
     /// `turn ACTIVATION ROWS`.
     fn turn_line(&mut self, activation: u32, limit: u32) -> Result<(), LineFault>
-        ensures read { IsStep result self.new (turn_line (reading_of self.old) activation limit) }
+        ensures read { AreTokensRead result self.new (turn_line (reading_of self.old) activation limit) }
         ensures few { held self.new ≡ held self.old }
     {
         if activation < 1 || activation > self.begins {
@@ -319,7 +319,7 @@ impl Reader {
 
     /// `drain ROUNDS ROWS`.
     fn drain_line(&mut self, rounds: u32, limit: u32) -> Result<(), LineFault>
-        ensures read { IsStep result self.new (drain_line (reading_of self.old) rounds limit) }
+        ensures read { AreTokensRead result self.new (drain_line (reading_of self.old) rounds limit) }
         ensures few { held self.new ≡ held self.old }
     {
         if rounds < 1 || rounds > 10_000 || !is_limit(limit) {
@@ -334,7 +334,7 @@ impl Reader {
 
     /// Nothing after the schedule's `end`.
     fn ended_line(&mut self, tokens: &[Token]) -> Result<(), LineFault>
-        ensures read { IsStep result self.new (ended_line (reading_of self.old) tokens.now) }
+        ensures read { AreTokensRead result self.new (ended_line (reading_of self.old) tokens.now) }
         ensures few { held self.new ≤ held self.old }
     {
         match tokens {
@@ -345,7 +345,7 @@ impl Reader {
 
     /// One event more that is no begin.
     fn add(&mut self, event: Event) -> Result<(), LineFault>
-        ensures read { IsStep result self.new (with_event (reading_of self.old) event) }
+        ensures read { AreTokensRead result self.new (with_event (reading_of self.old) event) }
         ensures few { held self.new ≡ held self.old }
     {
         if self.events.len() >= MOST_EVENTS {

@@ -3,7 +3,7 @@ ghost use Rattle.std.specs.Prelude.{◌≡◌, ◌<◌, ◌^◌, ℕ, List, [], 
 ghost use Rattle.job_text.specs.Below.{All, flat_map, parts_of, zip};
 ghost use Rattle.asm_parse.specs.declared.token.Token.TheVariants.{Word as WordToken, Number as NumberToken};
 ghost use Rattle.job_text.specs.Grammar.{content_of, job_of};
-ghost use Rattle.job_text.specs.Written.{AreBytes, access_text, event_line, image_lines, line_text, number_line, program_lines, source_lines, window_line, window_lines, written, HasShortText, SaysAgain, AddsLine, named_programs, AddsLines, texts_of};
+ghost use Rattle.job_text.specs.Written.{AreBytes, access_text, event_line, image_lines, token_line, number_line, program_lines, source_lines, window_tokens, windows_tokens, job_written, HasShortText, SaysAgain, AddsLine, named_programs, AddsLines, texts_of};
 
 use super::job::{Job, Name};
 use desk::Event;
@@ -21,7 +21,7 @@ use std::alloc::{AllocError, Global};
 ///
 /// [`AllocError`] where there is no memory.
 pub fn write_job(alloc: Global, job: &Job) -> Result<Vec<u8>, AllocError>
-    ensures text { IfOk result (λ text. text.items ≡ written (content_of job.now)) }
+    ensures text { IfOk result (λ text. text.items ≡ job_written (content_of job.now)) }
     ensures short { IfOk result (λ text. HasShortText (content_of job.now) text.items) }
     ensures back { IfOk result (λ text. SaysAgain (content_of job.now) text.items) }
 {
@@ -69,7 +69,7 @@ fn put_program(text: &mut Vec<u8>, name: &[u8], program: &Program) -> Result<(),
 
 /// Appends a line for each window that is there, the first place for register 1.
 fn put_windows(text: &mut Vec<u8>, windows: &[Option<Window>; 15]) -> Result<(), AllocError>
-    ensures { OnOk result (AddsLines text.old text.new (window_lines 1 windows.now)) }
+    ensures { OnOk result (AddsLines text.old text.new (windows_tokens 1 windows.now)) }
 {
     let mut register = 1;
     for window in windows {
@@ -83,7 +83,7 @@ fn put_windows(text: &mut Vec<u8>, windows: &[Option<Window>; 15]) -> Result<(),
 
 /// Appends the line of a window.
 fn put_window(text: &mut Vec<u8>, register: u32, window: Window) -> Result<(), AllocError>
-    ensures { OnOk result (AddsLine text.old text.new (window_line register window)) }
+    ensures { OnOk result (AddsLine text.old text.new (window_tokens register window)) }
 {
     text.extend_from_slice(b".window")?;
     put_number(text, register)?;

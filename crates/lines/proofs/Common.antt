@@ -8,7 +8,7 @@ pub use Rattle.std.proofs.lemmas.Nat.Bits.{bit_at-lt, bit_at-trailing_zeros, bit
 pub use Rattle.std.specs.List.{list_any, prefix_len, range_with_len, flat_map}
 pub use Rattle.std.specs.Prelude.{◌<◌, All, Bool, List, None, Option, Some, [], bit_and, bit_or, cond, count_ones, drop, false, filter, find, length, map, max, min, nat_le, nat_lt, not, option_map, replicate, slice_index, suc, sum_by, take, take_while, true, zero, ◌%◌, ◌&&◌, ◌*◌, ◌++◌, ◌+◌, ◌-◌, ◌/◌, ◌==◌, ◌^◌, ◌||◌, ◌∷◌, ◌≡◌, ◌≢◌, ◌≤◌, if◌then◌else◌}
 pub use Rattle.lines.specs.Directory.{Layout, byte_count, length_of, page_count, start_of, fine_among}
-pub use Rattle.lines.specs.Legal.{AreFlags, IsInRange, IsLegal, fault_after, fault_of, flag_count, flagged_fault, is_strange}
+pub use Rattle.lines.specs.Legal.{AreFlags, IsInRange, AreSegmentsLegal, fault_after, fault_of, flag_count, flagged_fault, is_strange}
 pub use Rattle.lines.specs.LineBits.{bits-shifted, bits-told, is_on}
 pub use Rattle.lines.specs.LineSets.{IsOfPage, between, bits_of, difference, lines_of_bits, lines_where, union}
 unfoldable pub use Rattle.lines.specs.LineSets.{passing}

@@ -1,5 +1,5 @@
 -- Segments have no fault exactly where they are a directory's.
-use Rattle.lines.proofs.Common.{arith, refl, ap, add-one, sum_by-cons, nat_tests, Order, Range, TooMany, PageSize, Two, Four, page_bytes, Layout, byte_count, fault_of, fault_after, is_strange, IsInRange, IsLegal, ◌≡◌, ℕ, zero, suc, ◌+◌, ◌*◌, ◌<◌, ◌≤◌, ◌==◌, nat_lt, nat_le, Bool, true, false, List, [], ◌∷◌, length, map, sum_by, slice_index, All, Option, Some, None, cond}
+use Rattle.lines.proofs.Common.{arith, refl, ap, add-one, sum_by-cons, nat_tests, Order, Range, TooMany, PageSize, Two, Four, page_bytes, Layout, byte_count, fault_of, fault_after, is_strange, IsInRange, AreSegmentsLegal, ◌≡◌, ℕ, zero, suc, ◌+◌, ◌*◌, ◌<◌, ◌≤◌, ◌==◌, nat_lt, nat_le, Bool, true, false, List, [], ◌∷◌, length, map, sum_by, slice_index, All, Option, Some, None, cond}
 use Rattle.std.specs.List.Sorted.{IsStrictlyIncreasing}
 use Rattle.std.proofs.lemmas.List.Elements.{All-cons, All-head, All-tail}
 use Rattle.lines.specs.declared.line_geometry.DirectoryFault.{DirectoryFault}
@@ -97,13 +97,13 @@ fine-after last pages (segment ∷ rest) legal =
     by_tests _ _ _ is is' is'' fine = absurd (cc)
 
 -- a list without a fault is legal
-pub legal-none : (segments : List (ℕ × ℕ)) → fault_of segments ≡ None → IsLegal segments
+pub legal-none : (segments : List (ℕ × ℕ)) → fault_of segments ≡ None → AreSegmentsLegal segments
 legal-none segments fine = by_tests (nat_lt 15 (length segments)) (length segments == 0) refl refl fine
   where
     by_tests :
         (many none : Bool) → nat_lt 15 (length segments) ≡ many → (length segments == 0) ≡ none
         → cond many (Some TooMany) (cond none (Some Range) (fault_after 0 0 segments)) ≡ None
-        → IsLegal segments
+        → AreSegmentsLegal segments
     by_tests true none is is' fine = absurd (cc)
     by_tests false true is is' fine = absurd (cc)
     by_tests false false is is' fine =
@@ -117,7 +117,7 @@ legal-none segments fine = by_tests (nat_lt 15 (length segments)) (length segmen
         }
 
 -- a legal list has no fault
-pub none_legal : (segments : List (ℕ × ℕ)) → IsLegal segments → fault_of segments ≡ None
+pub none_legal : (segments : List (ℕ × ℕ)) → AreSegmentsLegal segments → fault_of segments ≡ None
 none_legal [] legal = absurd (omega (arith, legal.some))
 none_legal (segment ∷ rest) legal =
     by_tests (nat_lt 15 (length (segment ∷ rest))) (length (segment ∷ rest) == 0) few some (fine-after 0 0 (segment ∷ rest) after)
@@ -147,7 +147,7 @@ none_legal (segment ∷ rest) legal =
     by_tests false false is is' fine = fine
 
 -- a list with a fault isn't
-pub fault-not_legal : (segments : List (ℕ × ℕ)) (fault : DirectoryFault) → fault_of segments ≡ Some fault → IsLegal segments → ⊥
+pub fault-not_legal : (segments : List (ℕ × ℕ)) (fault : DirectoryFault) → fault_of segments ≡ Some fault → AreSegmentsLegal segments → ⊥
 fault-not_legal segments fault found legal = grind (arith, nat_tests, none_legal segments legal)
 
 page-bound : (page : PageSize) (n : ℕ) → n ≤ 1024 → n * page_bytes page ≤ 4194304
@@ -155,5 +155,5 @@ page-bound Two n few = omega (arith, few)
 page-bound Four n few = omega (arith, few)
 
 -- a legal store has at most 4 MiB
-pub legal_bytes : (directory : Layout) → IsLegal directory.segments → byte_count directory ≤ 4194304
+pub legal_bytes : (directory : Layout) → AreSegmentsLegal directory.segments → byte_count directory ≤ 4194304
 legal_bytes directory legal = grind (arith, nat_tests, page-bound, byte_count_pages)

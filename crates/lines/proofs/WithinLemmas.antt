@@ -1,7 +1,7 @@
 -- Segments lie within the store.
 use Rattle.lines.proofs.Common.{prefix_len, arith, sum_by-cons, div_below, PageSize, page_bytes, line_bytes, bytes_of, Layout, length_of, start_of, byte_count, page_count, nat_tests, ◌≡◌, ℕ, ◌+◌, ◌*◌, ◌<◌, ◌≤◌, Bool, true, false, not, List, [], ◌∷◌, Some, find, take, take_while, option_map, sum_by, cond}
 use Rattle.std.proofs.Math.Nat.{mul_assoc, add-mul}
-use Rattle.lines.specs.Lines.{line_of, line_count}
+use Rattle.lines.specs.FlatLines.{line_of, line_count}
 
 -- a line has bytes
 pub line-bytes-pos : (directory : Layout) → 0 < line_bytes directory.page

@@ -8,5 +8,5 @@ pub record FlatStore : Type 0 where
   pub bytes : List ℕ
 
 -- it has as many bytes as its segments
-abbrev pub IsWhole : FlatStore → Type 0
-IsWhole store = length store.bytes ≡ byte_count store.directory
+abbrev pub IsWholeStore : FlatStore → Type 0
+IsWholeStore store = length store.bytes ≡ byte_count store.directory

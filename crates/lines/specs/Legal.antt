@@ -35,7 +35,7 @@ abbrev pub IsInRange : ℕ × ℕ → Type 0
 IsInRange segment = (1 ≤ segment.0) × (segment.0 ≤ 3839) × (1 ≤ segment.1) × (segment.1 ≤ 128)
 
 -- what a directory's segments are: one to fifteen, each in range, with ascending identifiers, and at most 1,024 pages in all
-pub record IsLegal (segments : List (ℕ × ℕ)) : Type 0 where
+pub record AreSegmentsLegal (segments : List (ℕ × ℕ)) : Type 0 where
   pub some : 1 ≤ length segments
   pub few : length segments ≤ 15
   pub in_range : All IsInRange segments

@@ -6,7 +6,7 @@ pub mod Resident
 pub mod Overlay
 pub mod Segments
 pub mod Directory
-pub mod Lines
+pub mod FlatLines
 pub mod FlatStore
 pub mod Legal
 pub mod Kept

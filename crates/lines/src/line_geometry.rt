@@ -1,7 +1,7 @@
 ghost use Rattle.std.specs.Prelude.{◌≡◌, nat_lt, ◌+◌, ◌*◌, ◌/◌, ◌==◌, ◌≤◌, ◌<◌, ◌^◌, ◌++◌, not, option_map, find, sum_by, take_while, length, drop, replicate, IfSome, IfOk, IfErr, IsOk, ◌↔◌};
 ghost use Rattle.lines.specs.Segments.{page_bytes, line_bytes, bytes_of, is_named};
 ghost use Rattle.lines.specs.Directory.{fine_among};
-ghost use Rattle.lines.specs.Legal.{fault_of, fault_after, fault_with, flag_count, is_strange, IsLegal, AreFlags};
+ghost use Rattle.lines.specs.Legal.{fault_of, fault_after, fault_with, flag_count, is_strange, AreSegmentsLegal, AreFlags};
 
 use std::marker::Model;
 
@@ -98,11 +98,11 @@ impl Model for Directory {
 
     ghost Value = { Layout };
 
-    ghost use Rattle.lines.specs.Kept.{IsKept, kept-again};
+    ghost use Rattle.lines.specs.Kept.{IsDirectoryKept, kept-again};
 
     ghost view = { λ d. record { page = d.page; segments = take d.count d.segments; fine = d.fine } };
 
-    ghost invariant = { λ d. IsKept d.page d.count d.segments d.fine };
+    ghost invariant = { λ d. IsDirectoryKept d.page d.count d.segments d.fine };
 
     ghost inverse = { λ v. record { page = v.page; count = length v.segments; segments = v.segments ++ drop (length v.segments) (replicate 15 (0, 0)); fine = v.fine } };
 
@@ -111,7 +111,7 @@ impl Model for Directory {
 
 impl Directory {
     ghost use Rattle.lines.specs.Directory.{Layout, length_of, start_of, byte_count, page_count, place, is_fine_page};
-    ghost use Rattle.lines.specs.Lines.{line_of, line_count, page_of};
+    ghost use Rattle.lines.specs.FlatLines.{line_of, line_count, page_of};
 
     /// The directory with these segments, each an identifier and a number of pages, none of them fine.
     ///
@@ -123,7 +123,7 @@ impl Directory {
     /// where the pages up to it pass 1,024 (docs/FORMATS.md).
     pub fn new(page: PageSize, segments: &[(u16, u16)]) -> Result<Directory, DirectoryFault>
         ensures value { IfOk result (λ directory. directory ≡ record { page = page; segments = segments.now; fine = 0 }) }
-        ensures legal { IsOk result ↔ IsLegal segments.now }
+        ensures legal { IsOk result ↔ AreSegmentsLegal segments.now }
         ensures fault { IfErr result (λ fault. fault_of segments.now ≡ Some fault) }
     {
         match first_fault(segments) {
@@ -151,7 +151,7 @@ impl Directory {
         fine: u16,
     ) -> Result<Directory, DirectoryFault>
         ensures value { IfOk result (λ directory. directory ≡ record { page = page; segments = segments.now; fine = fine }) }
-        ensures legal { IsOk result ↔ (IsLegal segments.now × AreFlags page segments.now fine) }
+        ensures legal { IsOk result ↔ (AreSegmentsLegal segments.now × AreFlags page segments.now fine) }
         ensures fault { IfErr result (λ fault. fault_with page segments.now fine ≡ Some fault) }
     {
         let plain = Directory::new(page, segments)?;
@@ -192,7 +192,7 @@ impl Directory {
     #[tactic(auto, using(crate::proofs::LegalLemmas::legal_bytes, std::proofs::lemmas::Bool::Decides::nat_tests))]
     pub fn segments(&self) -> &[(u16, u16)]
         ensures value { result.now ≡ self.now.segments }
-        ensures legal { IsLegal self.now.segments }
+        ensures legal { AreSegmentsLegal self.now.segments }
         ensures bytes { byte_count self.now ≤ 2 ^ 22 }
     {
         &self.segments[..usize::from(self.count)]

@@ -6,4 +6,4 @@ pub use Rattle.std.specs.Int.{div_ceil}
 pub use Rattle.std.specs.List.{enumerate_from, flat_map, range_with_len}
 pub use Rattle.std.specs.Prelude.{Err, IsErr, IsSome, None, Ok, Option, Result, Some, count_by, is_some}
 pub use Rattle.listing.specs.Listing.{place_line, program_line, row_line, row_lines, window_lines, listing_of}
-pub use Rattle.listing.specs.Puts.{Puts, PutsTimes}
+pub use Rattle.listing.specs.BytesPut.{PrintsBytes, PutsTimes}

@@ -14,13 +14,13 @@ abbrev pub program_line : List ℕ → List ℕ → ℕ → List ℕ
 program_line name image entry = codes "program " ++ name ++ codes " bytes " ++ decimal (length image) ++ codes " entry " ++ digits_of entry ++ codes "\n"
 
 -- the end of a window's line: to read alone, or also to write
-abbrev pub kind_of : Bool → List ℕ
-kind_of false = codes " r\n"
-kind_of true = codes " rw\n"
+abbrev pub window_kind : Bool → List ℕ
+window_kind false = codes " r\n"
+window_kind true = codes " rw\n"
 
 -- the line of the window under a register
 abbrev pub window_line : ℕ → Window → List ℕ
-window_line register window = codes "window " ++ decimal register ++ codes " segment " ++ decimal window.segment ++ kind_of window.write
+window_line register window = codes "window " ++ decimal register ++ codes " segment " ++ decimal window.segment ++ window_kind window.write
 
 -- the same, or nothing where there is no window
 abbrev pub place_line : ℕ → Option Window → List ℕ

@@ -1,6 +1,6 @@
 //! The listing of a program, put on the screen a line at a time (docs/FORMATS.md, "Listing").
 #![tactic(auto)]
 
-mod put;
+mod put_listing;
 
-pub use put::{put_program, put_rows};
+pub use put_listing::{put_program, put_rows};

@@ -1,12 +1,12 @@
 -- The calls of runs, and of one call more.
-use Rattle.outside.proofs.Common.{◌≡◌, ℕ, zero, suc, ◌+◌, List, [], ◌∷◌, ◌++◌, length, refl, sym, ◌∙◌, ap, append_assoc, append-nil, arith, ◌≤◌, length-append, replicate-append-replicate, length-replicate, replicate, count_by, if◌then◌else◌, cond, Result, Ok, Err, is_ok, IsOk, Run, Entry, Asked, calls_of, is_write, nat_tests}
+use Rattle.outside.proofs.Common.{◌≡◌, ℕ, zero, suc, ◌+◌, List, [], ◌∷◌, ◌++◌, length, refl, sym, ◌∙◌, ap, append_assoc, append-nil, arith, ◌≤◌, length-append, replicate-append-replicate, length-replicate, replicate, count_by, if◌then◌else◌, cond, Result, Ok, Err, is_ok, IsOk, Run, DiskCall, Asked, calls_of, is_write, nat_tests}
 use Rattle.std.proofs.lemmas.List.Sums.{sum_by-cons}
 
 -- one more that asked alone
 pub calls_of-asked : (runs : List Run) (asked : ℕ) → calls_of runs (asked + 1) ≡ calls_of runs asked ++ Asked ∷ []
 calls_of-asked [] asked = sym (replicate-append-replicate asked 1 Asked)
 calls_of-asked (run ∷ runs) asked =
-    ap (λ (rest : List Entry). replicate run.asked Asked ++ run.call ∷ rest) (calls_of-asked runs asked) ∙ sym (append_assoc (replicate run.asked Asked) (run.call ∷ calls_of runs asked) (Asked ∷ []))
+    ap (λ (rest : List DiskCall). replicate run.asked Asked ++ run.call ∷ rest) (calls_of-asked runs asked) ∙ sym (append_assoc (replicate run.asked Asked) (run.call ∷ calls_of runs asked) (Asked ∷ []))
 
 -- one more that did more
 pub calls_of-run : (runs : List Run) (last : Run) → calls_of (runs ++ last ∷ []) 0 ≡ calls_of runs last.asked ++ last.call ∷ []
@@ -18,7 +18,7 @@ pub asked-le : (runs : List Run) (asked : ℕ) → asked ≤ length (calls_of ru
 asked-le [] asked = omega (arith, length-replicate asked Asked)
 asked-le (run ∷ runs) asked = omega (arith, length-append (replicate run.asked Asked) (run.call ∷ calls_of runs asked), asked-le runs asked)
 
-none_wrote : (asked : ℕ) (calls : List Entry) → count_by is_write (replicate asked Asked ++ calls) ≡ count_by is_write calls
+none_wrote : (asked : ℕ) (calls : List DiskCall) → count_by is_write (replicate asked Asked ++ calls) ≡ count_by is_write calls
 none_wrote zero calls = refl
 none_wrote (suc asked) calls = none_wrote asked calls
 

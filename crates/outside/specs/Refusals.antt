@@ -22,8 +22,8 @@ abbrev pub is_due : Call → ℕ → ℕ → Refusal → Bool
 is_due call start end refusal = concerns call start end refusal && refusal.skip == 0
 
 -- some refusal is due
-abbrev pub is_refused : Call → ℕ → ℕ → List Refusal → Bool
-is_refused call start end refusals = list_any (is_due call start end) refusals
+abbrev pub is_call_refused : Call → ℕ → ℕ → List Refusal → Bool
+is_call_refused call start end refusals = list_any (is_due call start end) refusals
 
 -- one call fewer to skip
 abbrev pub skipping_one : Call → ℕ → ℕ → Refusal → Refusal

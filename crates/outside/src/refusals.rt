@@ -40,7 +40,7 @@ fn concerns(refusal: &Refusal, call: Call, start: u64, end: u64) -> bool
 
 /// Whether a call of this kind over these bytes is refused now.
 pub fn is_refused(refusals: &[Refusal], call: Call, start: u64, end: u64) -> bool
-    ensures { result ≡ spec.is_refused call start end refusals.now }
+    ensures { result ≡ spec.is_call_refused call start end refusals.now }
 {
     refusals.iter().any(|refusal| concerns(refusal, call, start, end) && refusal.skip == 0)
 }

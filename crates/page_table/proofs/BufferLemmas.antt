@@ -1,5 +1,5 @@
 -- The buffer after a pair came in, and after the pairs of a frame went.
-use Rattle.page_table.proofs.Common.{same_lists, get_or_default, All-filter, ◌≡◌, ◌≢◌, inl, inr, subst, ℕ, suc, ◌<◌, List, [], ◌∷◌, ◌++◌, length, drop, map, refl, sym, ◌∙◌, ap, arith, Some, None, All, ◌==◌, not, filter, find, slice_index_or, slice_set, Option, get_or-map, map-set, length-map, All-push, All-drop, All-set, All-same, All-get_or, All-nil, All-cons, All-head, All-tail, all_pairs_push, Key, holds, look_up, position-Some, cases_eq, get_or-set_same, get_or-set_other, length-set, Pair, Ways, class_of, page_of, pair_to, is_pair_of, pairs_in, remembered, after_table, after_found, with_newest, forgotten, AreApart, ArePlaced, IsOfTable, pairs_of, ways_without, AreClasses, nat_tests, option_map_or, get_or-eq_default}
+use Rattle.page_table.proofs.Common.{same_lists, get_or_default, All-filter, ◌≡◌, ◌≢◌, inl, inr, subst, ℕ, suc, ◌<◌, List, [], ◌∷◌, ◌++◌, length, drop, map, refl, sym, ◌∙◌, ap, arith, Some, None, All, ◌==◌, not, filter, find, slice_index_or, slice_set, Option, get_or-map, map-set, length-map, All-push, All-drop, All-set, All-same, All-get_or, All-nil, All-cons, All-head, All-tail, all_pairs_push, Key, holds, look_up, position-Some, cases_eq, get_or-set_same, get_or-set_other, length-set, Pair, Ways, class_of, pair_page, pair_to, is_pair_of, pairs_in, remembered, after_table, after_found, with_newest, forgotten, AreApart, ArePlaced, IsOfTable, pairs_of, ways_without, AreClasses, nat_tests, option_map_or, get_or-eq_default}
 use Rattle.std.proofs.lemmas.List.Kept.{AllPairs-filter}
 
 pairs-without : (frame : ℕ) (ways : Ways) → pairs_of (ways_without frame ways) ≡ filter (λ pair. not (pair.frame == frame)) (pairs_of ways)
@@ -14,16 +14,16 @@ forgotten-apart : (classes : List (List Pair)) (frame : ℕ) → All AreApart cl
 forgotten-apart [] frame apart = All-nil AreApart
 forgotten-apart (pairs ∷ classes) frame apart =
     All-cons AreApart (filter (λ pair. not (pair.frame == frame)) pairs) (forgotten classes frame)
-    (AllPairs-filter (λ pair other. page_of pair ≢ page_of other) (λ pair. not (pair.frame == frame)) pairs (All-head AreApart pairs classes apart))
+    (AllPairs-filter (λ pair other. pair_page pair ≢ pair_page other) (λ pair. not (pair.frame == frame)) pairs (All-head AreApart pairs classes apart))
     (forgotten-apart classes frame (All-tail AreApart pairs classes apart))
 
 -- where no pair of a class is of a page, each is of another
-others : (wanted : Key) (pairs : List Pair) → find (is_pair_of wanted) pairs ≡ None → All (λ pair. page_of pair ≢ wanted) pairs
-others wanted [] none = All-nil (λ pair. page_of pair ≢ wanted)
+others : (wanted : Key) (pairs : List Pair) → find (is_pair_of wanted) pairs ≡ None → All (λ pair. pair_page pair ≢ wanted) pairs
+others wanted [] none = All-nil (λ pair. pair_page pair ≢ wanted)
 others wanted (pair ∷ pairs) none = grind (arith, nat_tests, others wanted pairs)
 
 -- what holds of each pair holds of the one that is found, which is of the page
-found-pair : (P : Pair → Type 0) (wanted : Key) (pairs : List Pair) (pair : Pair) → All P pairs → find (is_pair_of wanted) pairs ≡ Some pair → P pair × (page_of pair ≡ wanted)
+found-pair : (P : Pair → Type 0) (wanted : Key) (pairs : List Pair) (pair : Pair) → All P pairs → find (is_pair_of wanted) pairs ≡ Some pair → P pair × (pair_page pair ≡ wanted)
 found-pair P wanted [] pair all is = absurd (cc)
 found-pair P wanted (first ∷ pairs) pair all is =
     grind (arith, nat_tests, All-tail, All-head, found-pair P wanted pairs pair (All-tail P first pairs all))
@@ -38,10 +38,10 @@ class-all P classes class all = inside-all P classes class (λ below. All-get_or
 -- pairs that stand in the classes of their pages stay there without those of a frame
 forgotten-placed : (classes : List (List Pair)) (frame : ℕ) → ArePlaced classes → ArePlaced (forgotten classes frame)
 forgotten-placed classes frame placed class =
-    inside-all (λ pair. class_of (page_of pair) ≡ class) (forgotten classes frame) class
+    inside-all (λ pair. class_of (pair_page pair) ≡ class) (forgotten classes frame) class
     (λ below.
-    All-same (λ pair. class_of (page_of pair) ≡ class) _ _ (get_or-map (filter (λ pair. not (pair.frame == frame))) classes class [] [] (omega (arith, below, length-map classes (filter (λ pair. not (pair.frame == frame))))))
-    (All-filter (λ pair. not (pair.frame == frame)) (λ pair. class_of (page_of pair) ≡ class) (pairs_in classes class) (placed class)))
+    All-same (λ pair. class_of (pair_page pair) ≡ class) _ _ (get_or-map (filter (λ pair. not (pair.frame == frame))) classes class [] [] (omega (arith, below, length-map classes (filter (λ pair. not (pair.frame == frame))))))
+    (All-filter (λ pair. not (pair.frame == frame)) (λ pair. class_of (pair_page pair) ≡ class) (pairs_in classes class) (placed class)))
 
 -- so classes stay as they are to be where the pairs of a frame went
 pub still-classes : (classes after : List Ways) (frame : ℕ) → map pairs_of after ≡ forgotten (map pairs_of classes) frame → AreClasses classes → AreClasses after
@@ -58,8 +58,8 @@ remembered-of classes keys wanted pair all is =
     grind (
       arith,
       nat_tests,
-      found-pair (λ p. look_up keys (page_of p) ≡ Some p.frame) wanted (pairs_in classes (class_of wanted)) pair (class-all (λ p. look_up keys (page_of p) ≡ Some p.frame) classes (class_of wanted) all) is,
-      class-all (λ p. look_up keys (page_of p) ≡ Some p.frame) classes (class_of wanted) all,
+      found-pair (λ p. look_up keys (pair_page p) ≡ Some p.frame) wanted (pairs_in classes (class_of wanted)) pair (class-all (λ p. look_up keys (pair_page p) ≡ Some p.frame) classes (class_of wanted) all) is,
+      class-all (λ p. look_up keys (pair_page p) ≡ Some p.frame) classes (class_of wanted) all,
     )
 
 -- of a page that the table lacks the buffer has no pair
@@ -76,10 +76,10 @@ apart-rest : (pairs : List Pair) → AreApart pairs → AreApart (drop 1 pairs)
 apart-rest [] apart = apart
 apart-rest (pair ∷ pairs) apart = λ i j d before inside. apart (suc i) (suc j) d (omega arith) (omega arith)
 
-apart-pushed : (pairs : List Pair) (pair : Pair) → AreApart pairs → All (λ other. page_of other ≢ page_of pair) pairs → AreApart (pairs ++ pair ∷ [])
+apart-pushed : (pairs : List Pair) (pair : Pair) → AreApart pairs → All (λ other. pair_page other ≢ pair_page pair) pairs → AreApart (pairs ++ pair ∷ [])
 apart-pushed pairs pair apart different =
-    all_pairs_push (λ one other. page_of one ≢ page_of other) pairs pair apart
-    (λ k d below. All-get_or (λ other. page_of other ≢ page_of pair) pairs k d below different)
+    all_pairs_push (λ one other. pair_page one ≢ pair_page other) pairs pair apart
+    (λ k d below. All-get_or (λ other. pair_page other ≢ pair_page pair) pairs k d below different)
 
 -- a class stays apart, if the new pair is of a page of which it had none
 pub newest-apart :
@@ -112,10 +112,10 @@ added-placed : (classes : List (List Pair)) (wanted : Key) (frame : ℕ) → cla
     → ArePlaced (slice_set classes (class_of wanted) (with_newest (pairs_in classes (class_of wanted)) (pair_to wanted frame)))
 added-placed classes wanted frame below placed class = elim (cases_eq class (class_of wanted)) [
   | inl same ↦
-      All-same (λ pair. class_of (page_of pair) ≡ class) _ _ (ap (pairs_in (slice_set classes (class_of wanted) _)) same ∙ get_or-set_same classes (class_of wanted) _ [] below)
-      (newest-all (λ pair. class_of (page_of pair) ≡ class) (pairs_in classes (class_of wanted)) (pair_to wanted frame)
-      (subst (λ n. All (λ pair. class_of (page_of pair) ≡ class) (pairs_in classes n)) same (placed class)) (sym same))
-  | inr differs ↦ All-same (λ pair. class_of (page_of pair) ≡ class) _ _ (get_or-set_other classes (class_of wanted) class _ [] differs) (placed class)
+      All-same (λ pair. class_of (pair_page pair) ≡ class) _ _ (ap (pairs_in (slice_set classes (class_of wanted) _)) same ∙ get_or-set_same classes (class_of wanted) _ [] below)
+      (newest-all (λ pair. class_of (pair_page pair) ≡ class) (pairs_in classes (class_of wanted)) (pair_to wanted frame)
+      (subst (λ n. All (λ pair. class_of (pair_page pair) ≡ class) (pairs_in classes n)) same (placed class)) (sym same))
+  | inr differs ↦ All-same (λ pair. class_of (pair_page pair) ≡ class) _ _ (get_or-set_other classes (class_of wanted) class _ [] differs) (placed class)
 ]
 
 -- the classes stay apart
@@ -142,9 +142,9 @@ after-of classes keys wanted all = by_memory (remembered classes wanted)
     by_table : (o : Option ℕ) → look_up keys wanted ≡ o → IsOfTable (after_table classes wanted o) keys
     by_table None is = all
     by_table (Some frame) is =
-        All-set (All (λ pair. look_up keys (page_of pair) ≡ Some pair.frame)) classes (class_of wanted) (with_newest (pairs_in classes (class_of wanted)) (pair_to wanted frame))
-        (newest-all (λ pair. look_up keys (page_of pair) ≡ Some pair.frame) (pairs_in classes (class_of wanted)) (pair_to wanted frame)
-        (class-all (λ pair. look_up keys (page_of pair) ≡ Some pair.frame) classes (class_of wanted) all) is) all
+        All-set (All (λ pair. look_up keys (pair_page pair) ≡ Some pair.frame)) classes (class_of wanted) (with_newest (pairs_in classes (class_of wanted)) (pair_to wanted frame))
+        (newest-all (λ pair. look_up keys (pair_page pair) ≡ Some pair.frame) (pairs_in classes (class_of wanted)) (pair_to wanted frame)
+        (class-all (λ pair. look_up keys (pair_page pair) ≡ Some pair.frame) classes (class_of wanted) all) is) all
 
     by_memory : (o : Option ℕ) → IsOfTable (option_map_or (λ _. classes) o (after_table classes wanted (look_up keys wanted))) keys
     by_memory None = by_table (look_up keys wanted) refl
@@ -156,15 +156,15 @@ one-page keys one other frame here there = grind (arith, nat_tests, position-Som
 
 -- a class that isn't that of a page has no pair of the frame in which the table has the page
 no-pair : (keys : List (Option Key)) (key : Key) (frame class : ℕ) (pairs : List Pair) → look_up keys key ≡ Some frame → class ≢ class_of key
-    → All (λ pair. class_of (page_of pair) ≡ class) pairs → All (λ pair. look_up keys (page_of pair) ≡ Some pair.frame) pairs → filter (λ pair. not (pair.frame == frame)) pairs ≡ pairs
+    → All (λ pair. class_of (pair_page pair) ≡ class) pairs → All (λ pair. look_up keys (pair_page pair) ≡ Some pair.frame) pairs → filter (λ pair. not (pair.frame == frame)) pairs ≡ pairs
 no-pair keys key frame class [] there other placed all = refl
 no-pair keys key frame class (pair ∷ pairs) there other placed all =
     let rest = no-pair keys key frame class pairs there other
-    (All-tail (λ p. class_of (page_of p) ≡ class) pair pairs placed)
-    (All-tail (λ p. look_up keys (page_of p) ≡ Some p.frame) pair pairs all) in
-    let here = All-head (λ p. class_of (page_of p) ≡ class) pair pairs placed in
-    let found = All-head (λ p. look_up keys (page_of p) ≡ Some p.frame) pair pairs all in
-    grind (arith, nat_tests, one-page keys (page_of pair) key frame, rest, here, found)
+    (All-tail (λ p. class_of (pair_page p) ≡ class) pair pairs placed)
+    (All-tail (λ p. look_up keys (pair_page p) ≡ Some p.frame) pair pairs all) in
+    let here = All-head (λ p. class_of (pair_page p) ≡ class) pair pairs placed in
+    let found = All-head (λ p. look_up keys (pair_page p) ≡ Some p.frame) pair pairs all in
+    grind (arith, nat_tests, one-page keys (pair_page pair) key frame, rest, here, found)
 
 -- so the pairs of that frame go where they go from the class of the page
 pub forgotten-there :
@@ -186,6 +186,6 @@ forgotten-there classes keys key frame other below are all there =
           ∙ sym then
       | inr differs ↦
           get_or-set_other (map pairs_of classes) (class_of key) k _ d differs
-          ∙ sym (then ∙ no-pair keys key frame k (pairs_in (map pairs_of classes) k) there differs (are.placed k) (class-all (λ p. look_up keys (page_of p) ≡ Some p.frame) (map pairs_of classes) k all)
+          ∙ sym (then ∙ no-pair keys key frame k (pairs_in (map pairs_of classes) k) there differs (are.placed k) (class-all (λ p. look_up keys (pair_page p) ≡ Some p.frame) (map pairs_of classes) k all)
           ∙ get_or_default (map pairs_of classes) k [] d within)
     ])

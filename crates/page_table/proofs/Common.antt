@@ -16,9 +16,9 @@ pub use Rattle.std.proofs.lemmas.Bool.Decides.{nat_tests}
 pub use Rattle.std.proofs.lemmas.Grind.{common_steps}
 pub use Rattle.std.proofs.lemmas.List.Elements.{All-cons, All-drop, All-filter, All-get_or, All-head, All-nil, All-push, All-same, All-set, All-tail, All-weaker}
 pub use Rattle.std.proofs.lemmas.List.Quantifiers.{all_pairs_push, position-Some}
-pub use Rattle.page_table.specs.Buffer.{AreApart, ArePlaced, IsOfTable, after_found, after_table, class_of, forgotten, is_pair_of, page_of, pair_to, pairs_in, remembered, with_newest}
+pub use Rattle.page_table.specs.Buffer.{AreApart, ArePlaced, IsOfTable, after_found, after_table, class_of, forgotten, is_pair_of, pair_page, pair_to, pairs_in, remembered, with_newest}
 pub use Rattle.page_table.specs.Ways.{AreClasses, pairs_of, unless_of, ways_without}
 pub use Rattle.page_table.specs.declared.tlb_model.Pair.{Pair}
 pub use Rattle.page_table.specs.declared.tlb_model.Ways.{Ways}
-pub use Rattle.page_table.specs.KnownLines.{line_in, with_line, unopened}
+pub use Rattle.page_table.specs.KnownLines.{line_in, with_known_line, unopened}
 pub use Rattle.page_table.specs.Registers.{register_with}

@@ -11,8 +11,8 @@ abbrev pub class_of : Key → ℕ
 class_of key = key.page % 16
 
 -- the page of a pair
-abbrev pub page_of : Pair → Key
-page_of pair = key_to pair.segment pair.page
+abbrev pub pair_page : Pair → Key
+pair_page pair = key_to pair.segment pair.page
 
 -- the pair of a page in a frame
 abbrev pub pair_to : Key → ℕ → Pair
@@ -20,11 +20,11 @@ pair_to key frame = record { segment = key.segment; page = key.page; frame = fra
 
 -- whether a pair is of a page
 abbrev pub is_pair_of : Key → Pair → Bool
-is_pair_of wanted pair = is_same_key wanted (page_of pair)
+is_pair_of wanted pair = is_same_key wanted (pair_page pair)
 
 -- no two pairs are of the same page
 abbrev pub AreApart : List Pair → Type 0
-AreApart pairs = AllPairs (λ pair other. page_of pair ≢ page_of other) pairs
+AreApart pairs = AllPairs (λ pair other. pair_page pair ≢ pair_page other) pairs
 
 -- the pairs of a class
 abbrev pub pairs_in : List (List Pair) → ℕ → List Pair
@@ -32,7 +32,7 @@ pairs_in classes class = slice_index_or classes class []
 
 -- each pair is in the class of its page
 abbrev pub ArePlaced : List (List Pair) → Type 0
-ArePlaced classes = (class : ℕ) → All (λ pair. class_of (page_of pair) ≡ class) (pairs_in classes class)
+ArePlaced classes = (class : ℕ) → All (λ pair. class_of (pair_page pair) ≡ class) (pairs_in classes class)
 
 -- the frame of a page by the buffer alone
 abbrev pub remembered : List (List Pair) → Key → Option ℕ
@@ -66,7 +66,7 @@ forgotten classes frame = map (filter (λ pair. not (pair.frame == frame))) clas
 
 -- each pair is in the table: this finds the page of the pair in its frame
 abbrev pub IsOfTable : List (List Pair) → List (Option Key) → Type 0
-IsOfTable classes keys = All (All (λ pair. look_up keys (page_of pair) ≡ Some pair.frame)) classes
+IsOfTable classes keys = All (All (λ pair. look_up keys (pair_page pair) ≡ Some pair.frame)) classes
 
 -- What a find of a page answers, and the buffer after it; where each pair is in the table, the answer is the table's, and each pair is in it again.
 pub record LooksUp (old : List (List Pair)) (keys : List (Option Key)) (wanted : Key) (new : List (List Pair)) (result : Option ℕ) : Type 0 where

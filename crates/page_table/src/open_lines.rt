@@ -1,5 +1,5 @@
 ghost use Rattle.std.specs.Prelude.{◌≡◌, ◌<◌, ℕ, ◌/◌, ◌^◌, length};
-ghost use Rattle.page_table.specs.LinePlaces.{place_of};
+ghost use Rattle.page_table.specs.LinePlaces.{block_place};
 
 use super::segment_regs::Virtual;
 
@@ -26,12 +26,12 @@ pub struct OpenLines {
 }
 
 impl OpenLines {
-    ghost use Rattle.page_table.specs.KnownLines.{known, KnowsNothing, with_line};
+    ghost use Rattle.page_table.specs.KnownLines.{known, KnowsNoLine, with_known_line};
 
     /// No line is known.
     #[tactic(auto, unfolding(crate::specs::KnownLines::known))]
     pub fn new() -> OpenLines
-        ensures { KnowsNothing result }
+        ensures { KnowsNoLine result }
     {
         let none = OpenLine {
             first: Virtual {
@@ -68,7 +68,7 @@ impl OpenLines {
     #[tactic(auto, unfolding(crate::specs::KnownLines::known))]
     #[inline]
     pub fn keep(&mut self, address: u32, line: OpenLine)
-        ensures { (at : ℕ) → known self.new at ≡ with_line (address / 128) line at (known self.old at) }
+        ensures { (at : ℕ) → known self.new at ≡ with_known_line (address / 128) line at (known self.old at) }
     {
         let place = place_of(address / 128);
         self.held[place] = true;
@@ -80,7 +80,7 @@ impl OpenLines {
     #[tactic(auto, unfolding(crate::specs::KnownLines::known))]
     #[inline]
     pub fn forget(&mut self)
-        ensures { KnowsNothing self.new }
+        ensures { KnowsNoLine self.new }
     {
         self.held = [false; 64];
     }
@@ -90,7 +90,7 @@ impl OpenLines {
 #[inline(always)]
 fn place_of(block: u32) -> usize
     requires { block < 2 ^ 25 }
-    ensures value { result ≡ place_of block }
+    ensures value { result ≡ block_place block }
     ensures few { result < 64 }
 {
     ((block + block / 0x20_0000) % 64) as usize

@@ -7,7 +7,7 @@ use Rattle.std.proofs.lemmas.Option.{slice_get-get_or, slice_get_read}
 use Rattle.std.specs.Prelude.{Option, slice_get, slice_index, slice_index_or, slice_set, cond, max, replicate, ◌/◌, ◌%◌, ◌-◌, ◌==◌}
 use Rattle.flat_machine.specs.declared.ready.Ready.{Ready}
 use Rattle.ready_rows.specs.Tags.{is_tag_met}
-use Rattle.ready_rows.specs.Known.{place_of, row_in, unless_met, with_row, with_place}
+use Rattle.ready_rows.specs.Known.{row_place, row_in, unless_met, with_row, with_place}
 
 get-set_same : (rows : List Ready) (place : ℕ) (row : Ready) → place < length rows → slice_get (slice_set rows place row) place ≡ Some row
 get-set_same rows place row inside =
@@ -23,7 +23,7 @@ get-set_other (x ∷ rows) (suc place) (suc other) row apart = get-set_other row
 -- a row is known from now on
 pub row_in-kept :
     (tags : List ℕ) (rows : List Ready) (at : ℕ) (row : Ready) (other : ℕ) → length tags ≡ 512 → length rows ≡ 512
-    → row_in (slice_set tags (place_of at) (at + 1)) (slice_set rows (place_of at) row) other ≡ with_row at row other (row_in tags rows other)
+    → row_in (slice_set tags (row_place at) (at + 1)) (slice_set rows (row_place at) row) other ≡ with_row at row other (row_in tags rows other)
 row_in-kept tags rows at row other tagged sized = grind (arith, nat_tests, get-set_same, get-set_other, get_or-set_same, get_or-set_other)
 
 -- a place loses a row that some bytes meet
@@ -70,14 +70,14 @@ unmet offset bytes address (Some row) (inr below) = grind (arith, nat_tests)
 pub on_way-goes :
     (first half offset bytes address : ℕ) (before now next : Option Ready) → IsOnWay first half offset bytes address before now
     → next ≡ with_place (half % 512) offset bytes address now → IsOnWay first (half + 1) offset bytes address before next
-on_way-goes first half offset bytes address before now next way is = by_test (place_of address == half % 512) refl is
+on_way-goes first half offset bytes address before now next way is = by_test (row_place address == half % 512) refl is
   where
     ended : (now ≡ before) ⊎ (now ≡ unless_met offset bytes address before) → unless_met offset bytes address now ≡ unless_met offset bytes address before
     ended (inl same) = ap (unless_met offset bytes address) same
     ended (inr done) = ap (unless_met offset bytes address) done ∙ again offset bytes address before
 
     by_test :
-        (b : Bool) → (place_of address == half % 512) ≡ b → next ≡ cond b (unless_met offset bytes address now) now
+        (b : Bool) → (row_place address == half % 512) ≡ b → next ≡ cond b (unless_met offset bytes address now) now
         → IsOnWay first (half + 1) offset bytes address before next
     by_test true here then =
         let ends : next ≡ unless_met offset bytes address before = then ∙ ended way.some in
@@ -119,14 +119,14 @@ pub above-top :
     → row_in tags rows address ≡ unless_met offset bytes address (row_in tags rows address)
 above-top tags rows top offset bytes address below past = by_row (row_in tags rows address) refl
   where
-    tag_is : (row : Ready) (b : Bool) → (slice_index tags (place_of address) == address + 1) ≡ b → cond b (slice_get rows (place_of address)) None ≡ Some row → slice_index tags (place_of address) ≡ address + 1
-    tag_is row true same is = eqb-true (slice_index tags (place_of address)) (address + 1) same
+    tag_is : (row : Ready) (b : Bool) → (slice_index tags (row_place address) == address + 1) ≡ b → cond b (slice_get rows (row_place address)) None ≡ Some row → slice_index tags (row_place address) ≡ address + 1
+    tag_is row true same is = eqb-true (slice_index tags (row_place address)) (address + 1) same
     tag_is row false same is = absurd (cc)
 
     by_row : (o : Option Ready) → row_in tags rows address ≡ o → o ≡ unless_met offset bytes address o
     by_row None is = refl
     by_row (Some row) is =
-        sym (unmet offset bytes address (Some row) (inr (omega (arith, past, below (place_of address), tag_is row (slice_index tags (place_of address) == address + 1) refl is))))
+        sym (unmet offset bytes address (Some row) (inr (omega (arith, past, below (row_place address), tag_is row (slice_index tags (row_place address) == address + 1) refl is))))
 
 -- where all tags are zeros none is above any top
 pub zeros-below : (tags : List ℕ) (n : ℕ) → tags ≡ replicate n 0 → (place : ℕ) → slice_index tags place ≤ 0
@@ -137,4 +137,4 @@ zeros-below tags n zeros place = elim (cases_lt place n) [
 
 -- and none has a row
 pub none-below : (tags : List ℕ) (rows : List Ready) (top : ℕ) → top ≡ 0 → ((place : ℕ) → slice_index tags place ≤ top) → (address : ℕ) → row_in tags rows address ≡ None
-none-below tags rows top none below address = let low : slice_index tags (place_of address) ≤ top = below (place_of address) in grind (arith, nat_tests)
+none-below tags rows top none below address = let low : slice_index tags (row_place address) ≤ top = below (row_place address) in grind (arith, nat_tests)

@@ -17,7 +17,7 @@ pub struct ReadyRows {
 }
 
 impl ReadyRows {
-    ghost use Rattle.ready_rows.specs.Known.{known, KnowsNothing, unless_met, with_row, with_place};
+    ghost use Rattle.ready_rows.specs.Known.{known, KnowsNoRow, unless_met, with_row, with_place};
 
     /// No row is known. It takes all memory that will be needed.
     ///
@@ -26,7 +26,7 @@ impl ReadyRows {
     /// There is no memory.
     #[tactic(auto, unfolding(crate::specs::Known::known))]
     pub fn new(alloc: Global) -> Result<ReadyRows, AllocError>
-        ensures { IfOk result KnowsNothing }
+        ensures { IfOk result KnowsNoRow }
     {
         let none = Ready {
             doing: Doing::Stay,
@@ -73,7 +73,7 @@ impl ReadyRows {
     #[tactic(auto, unfolding(crate::specs::Known::known))]
     #[inline]
     pub fn forget(&mut self)
-        ensures { KnowsNothing self.new }
+        ensures { KnowsNoRow self.new }
     {
         if self.top == 0 {
             return;

@@ -1,8 +1,8 @@
 -- The names that most proofs cite, passed on from one place. Declares nothing.
 pub use Rattle.outside.proofs.Common.{AddsNoImage, Err, ImagesFollow, IsErr, List, Ok, Passes, Prints, Result, Some, Torn, [], ap, arith, inl, inr, length, length-append, refl, subst, suc, sym, take, written, zero, ℕ, ⊎_elim, ◌++◌, ◌+◌, ◌∙◌, ◌∷◌, ◌≡◌, ◌≤◌, ◌⊎◌}
 pub use Rattle.outside.specs.declared.failed.Failed.{Failed}
-pub use Rattle.real_files.specs.Deeds.{Deed, StopsAtFailure, Synced, Tore, Unsynced, Wrote, held_after, held_by, images_at, images_by, is_failed}
-pub use Rattle.real_files.specs.declared.trace.Trace.{Trace}
+pub use Rattle.real_files.specs.Deeds.{Deed, StopsAtFailure, Synced, Tore, Unsynced, Wrote, file_after, file_by, file_images_at, file_images_by, deed_failed}
+pub use Rattle.real_files.specs.declared.file_trace.FileTrace.{FileTrace}
 pub use Rattle.std.proofs.Common.{◌<◌, ◌^◌}
 pub use base.Logic.{SProp, emp, ent, fst∗, id⊢, sep, via}
 pub use contract.Monad.{Fun}

@@ -1,11 +1,11 @@
 -- What one deed more adds to the crash images of a file, and what one put more prints.
-use Rattle.real_files.proofs.Common.{◌≡◌, ◌⊎◌, inl, inr, ⊎_elim, ℕ, ◌+◌, ◌≤◌, List, [], ◌∷◌, ◌++◌, length, refl, sym, ◌∙◌, ap, subst, arith, length-append, written, Torn, Passes, ImagesFollow, AddsNoImage, Failed, Deed, Wrote, Tore, Synced, Unsynced, held_by, images_by, held_after, images_at, is_failed, StopsAtFailure, take, Some, IsErr, Result, Ok, Err, Prints}
+use Rattle.real_files.proofs.Common.{◌≡◌, ◌⊎◌, inl, inr, ⊎_elim, ℕ, ◌+◌, ◌≤◌, List, [], ◌∷◌, ◌++◌, length, refl, sym, ◌∙◌, ap, subst, arith, length-append, written, Torn, Passes, ImagesFollow, AddsNoImage, Failed, Deed, Wrote, Tore, Synced, Unsynced, file_by, file_images_by, file_after, file_images_at, deed_failed, StopsAtFailure, take, Some, IsErr, Result, Ok, Err, Prints}
 use Rattle.std.specs.Prelude.{◌-◌, count_by, take, Bool, false, cond, Result, Ok, Err, OnOk, IsErr, is_err, Some}
 use Rattle.outside.specs.Bytes.{Writes}
 use Rattle.std.proofs.lemmas.List.Sums.{sum_by-append}
 use Rattle.std.proofs.Math.Seq.{take-append_seam}
 use Rattle.outside.proofs.Torn.{untouched, torn_by_written}
-use Rattle.real_files.specs.DeedLaws.{past, stays, newest, left_now, held_after-append}
+use Rattle.real_files.specs.DeedLaws.{past, stays, newest, file_left_now, file_after-append}
 use Rattle.real_files.specs.Shown.{printed_of, marks_of}
 use Rattle.real_files.specs.ShownLaws.{printed_of-more, marks_of-more}
 use Rattle.std.proofs.lemmas.Bool.{cases_lt}
@@ -18,35 +18,35 @@ abbrev pub moment_of : Told → ℕ
 moment_of told = length told.1
 
 abbrev pub images_of : Told → ℕ → List ℕ → Type 0
-images_of told = images_at told.0 told.1
+images_of told = file_images_at told.0 told.1
 
 -- where nothing was done
 pub adds_same : (first : List ℕ) (deeds : List Deed) (first' : List ℕ) (deeds' : List Deed) → first' ≡ first → deeds' ≡ deeds → AddsNoImage moment_of images_of (first, deeds) (first', deeds')
 adds_same first deeds first' deeds' is_first is_deeds t image since by_now left =
     let is_now : t ≡ length deeds = omega (arith, since, by_now, ap length is_deeds) in
-    let was = subst (λ (these : List ℕ). images_at these deeds t image) is_first (subst (λ (these : List Deed). images_at first' these t image) is_deeds left) in
-    subst (λ (n : ℕ). images_at first deeds n image) is_now was
+    let was = subst (λ (these : List ℕ). file_images_at these deeds t image) is_first (subst (λ (these : List Deed). file_images_at first' these t image) is_deeds left) in
+    subst (λ (n : ℕ). file_images_at first deeds n image) is_now was
 
-module _ (first held : List ℕ) (deeds : List Deed) (replayed : held ≡ held_after first deeds) (first' : List ℕ) (deeds' : List Deed) (deed : Deed) (is_first : first' ≡ first) (is_deeds : deeds' ≡ deeds ++ deed ∷ []) where
-  held_now : images_at first deeds (length deeds) held
-  held_now = subst (λ (these : List ℕ). images_at first deeds (length deeds) these) (sym replayed) (left_now first deeds)
+module _ (first held : List ℕ) (deeds : List Deed) (replayed : held ≡ file_after first deeds) (first' : List ℕ) (deeds' : List Deed) (deed : Deed) (is_first : first' ≡ first) (is_deeds : deeds' ≡ deeds ++ deed ∷ []) where
+  held_now : file_images_at first deeds (length deeds) held
+  held_now = subst (λ (these : List ℕ). file_images_at first deeds (length deeds) these) (sym replayed) (file_left_now first deeds)
 
-  here : (t : ℕ) (image : List ℕ) → images_at first' deeds' t image → images_at first (deeds ++ deed ∷ []) t image
+  here : (t : ℕ) (image : List ℕ) → file_images_at first' deeds' t image → file_images_at first (deeds ++ deed ∷ []) t image
   here t image left =
-      let with_first = subst (λ (these : List ℕ). images_at these deeds' t image) is_first left in
-      subst (λ (these : List Deed). images_at first these t image) is_deeds with_first
+      let with_first = subst (λ (these : List ℕ). file_images_at these deeds' t image) is_first left in
+      subst (λ (these : List Deed). file_images_at first these t image) is_deeds with_first
 
-  there : (t : ℕ) (image : List ℕ) → images_at first (deeds ++ deed ∷ []) t image → images_at first' deeds' t image
+  there : (t : ℕ) (image : List ℕ) → file_images_at first (deeds ++ deed ∷ []) t image → file_images_at first' deeds' t image
   there t image left =
-      let with_deeds = subst (λ (these : List Deed). images_at first these t image) (sym is_deeds) left in
-      subst (λ (these : List ℕ). images_at these deeds' t image) (sym is_first) with_deeds
+      let with_deeds = subst (λ (these : List Deed). file_images_at first these t image) (sym is_deeds) left in
+      subst (λ (these : List ℕ). file_images_at these deeds' t image) (sym is_first) with_deeds
 
   pub counted : length deeds' ≡ length deeds + 1
   counted = omega (arith, ap length is_deeds, length-append deeds (deed ∷ []))
 
-  pub still_replayed : (held' : List ℕ) → held' ≡ held_by deed held → held' ≡ held_after first' deeds'
+  pub still_replayed : (held' : List ℕ) → held' ≡ file_by deed held → held' ≡ file_after first' deeds'
   still_replayed held' is_held =
-      is_held ∙ ap (held_by deed) replayed ∙ sym (held_after-append deeds deed first) ∙ ap (λ (these : List Deed). held_after first these) (sym is_deeds) ∙ ap (λ (start : List ℕ). held_after start deeds') (sym is_first)
+      is_held ∙ ap (file_by deed) replayed ∙ sym (file_after-append deeds deed first) ∙ ap (λ (these : List Deed). file_after first these) (sym is_deeds) ∙ ap (λ (start : List ℕ). file_after start deeds') (sym is_first)
 
   pub passes : Passes moment_of images_of (first, deeds) (first', deeds')
   passes = record {
@@ -56,15 +56,15 @@ module _ (first held : List ℕ) (deeds : List Deed) (replayed : held ≡ held_a
   }
 
   -- since the call began: an image of its start, or what the deed makes of those
-  adds : (t : ℕ) (image : List ℕ) → length deeds ≤ t → t ≤ length deeds' → images_at first' deeds' t image → images_at first deeds (length deeds) image ⊎ images_by deed held (images_at first deeds (length deeds)) image
+  adds : (t : ℕ) (image : List ℕ) → length deeds ≤ t → t ≤ length deeds' → file_images_at first' deeds' t image → file_images_at first deeds (length deeds) image ⊎ file_images_by deed held (file_images_at first deeds (length deeds)) image
   adds t image since by_now left = elim (cases_lt (length deeds) t) [
     | inl after ↦
         let is_next : t ≡ length deeds + 1 = omega (arith, after, by_now, counted) in
-        let step = newest first deeds deed image (subst (λ (n : ℕ). images_at first (deeds ++ deed ∷ []) n image) is_next (here t image left)) in
-        inr (subst (λ (these : List ℕ). images_by deed these (images_at first deeds (length deeds)) image) (sym replayed) step)
+        let step = newest first deeds deed image (subst (λ (n : ℕ). file_images_at first (deeds ++ deed ∷ []) n image) is_next (here t image left)) in
+        inr (subst (λ (these : List ℕ). file_images_by deed these (file_images_at first deeds (length deeds)) image) (sym replayed) step)
     | inr now ↦
         let is_now : t ≡ length deeds = omega (arith, now, since) in
-        inl (subst (λ (n : ℕ). images_at first deeds n image) is_now (past first deeds deed t image now (here t image left)))
+        inl (subst (λ (n : ℕ). file_images_at first deeds n image) is_now (past first deeds deed t image now (here t image left)))
   ]
 
   -- a sync adds no image, whether it succeeds or not
@@ -72,19 +72,19 @@ module _ (first held : List ℕ) (deeds : List Deed) (replayed : held ≡ held_a
   sync_adds is t image since by_now left =
       ⊎_elim (λ was. was) (λ step.
       ⊎_elim (λ (synced : deed ≡ Synced).
-      let same : image ≡ held = subst (λ (that : Deed). images_by that held (images_at first deeds (length deeds)) image) synced step in
-      subst (λ (that : List ℕ). images_at first deeds (length deeds) that) (sym same) held_now)
-      (λ (unsynced : deed ≡ Unsynced). subst (λ (that : Deed). images_by that held (images_at first deeds (length deeds)) image) unsynced step) is) (adds t image since by_now left)
+      let same : image ≡ held = subst (λ (that : Deed). file_images_by that held (file_images_at first deeds (length deeds)) image) synced step in
+      subst (λ (that : List ℕ). file_images_at first deeds (length deeds) that) (sym same) held_now)
+      (λ (unsynced : deed ≡ Unsynced). subst (λ (that : Deed). file_images_by that held (file_images_at first deeds (length deeds)) image) unsynced step) is) (adds t image since by_now left)
 
   -- after one that succeeds a crash leaves what is held
-  pub synced_leaves : deed ≡ Synced → (image : List ℕ) → images_at first' deeds' (length deeds') image → image ≡ held
+  pub synced_leaves : deed ≡ Synced → (image : List ℕ) → file_images_at first' deeds' (length deeds') image → image ≡ held
   synced_leaves is image left =
-      let step = newest first deeds deed image (subst (λ (n : ℕ). images_at first (deeds ++ deed ∷ []) n image) counted (here (length deeds') image left)) in
-      let at_held = subst (λ (these : List ℕ). images_by deed these (images_at first deeds (length deeds)) image) (sym replayed) step in
-      subst (λ (that : Deed). images_by that held (images_at first deeds (length deeds)) image) is at_held
+      let step = newest first deeds deed image (subst (λ (n : ℕ). file_images_at first (deeds ++ deed ∷ []) n image) counted (here (length deeds') image left)) in
+      let at_held = subst (λ (these : List ℕ). file_images_by deed these (file_images_at first deeds (length deeds)) image) (sym replayed) step in
+      subst (λ (that : Deed). file_images_by that held (file_images_at first deeds (length deeds)) image) is at_held
 
   module _ (at : ℕ) (bytes : List ℕ) (within : at ≤ length held) where
-    torn_of : (image : List ℕ) → (image ≡ written held at bytes) ⊎ ((start : List ℕ) × images_at first deeds (length deeds) start × Torn at (length bytes) start image) → (start : List ℕ) × images_at first deeds (length deeds) start × Torn at (length bytes) start image
+    torn_of : (image : List ℕ) → (image ≡ written held at bytes) ⊎ ((start : List ℕ) × file_images_at first deeds (length deeds) start × Torn at (length bytes) start image) → (start : List ℕ) × file_images_at first deeds (length deeds) start × Torn at (length bytes) start image
     torn_of image (inl same) = (held, held_now, subst (λ (that : List ℕ). Torn at (length bytes) held that) (sym same) (torn_by_written held at bytes within (length bytes) (omega arith)))
     torn_of image (inr torn) = torn
 
@@ -92,8 +92,8 @@ module _ (first held : List ℕ) (deeds : List Deed) (replayed : held ≡ held_a
     pub write_follows : (deed ≡ Wrote at bytes) ⊎ (deed ≡ Tore at bytes) → ImagesFollow (Torn at (length bytes)) moment_of images_of (first, deeds) (first', deeds')
     write_follows is t image since by_now left =
         ⊎_elim (λ was. (image, was, untouched at (length bytes) image))
-        (λ step. torn_of image (⊎_elim (λ (wrote : deed ≡ Wrote at bytes). subst (λ (that : Deed). images_by that held (images_at first deeds (length deeds)) image) wrote step)
-        (λ (tore : deed ≡ Tore at bytes). subst (λ (that : Deed). images_by that held (images_at first deeds (length deeds)) image) tore step) is))
+        (λ step. torn_of image (⊎_elim (λ (wrote : deed ≡ Wrote at bytes). subst (λ (that : Deed). file_images_by that held (file_images_at first deeds (length deeds)) image) wrote step)
+        (λ (tore : deed ≡ Tore at bytes). subst (λ (that : Deed). file_images_by that held (file_images_at first deeds (length deeds)) image) tore step) is))
         (adds t image since by_now left)
 
 -- how many of them are such
@@ -103,15 +103,15 @@ count_more p deeds deeds' deed is =
     omega (arith, more)
 
 -- behind deeds of which none failed
-module _ (deeds deeds' : List Deed) (deed : Deed) (is : deeds' ≡ deeds ++ deed ∷ []) (unfailed : count_by is_failed deeds ≡ 0) where
-  pub still_unfailed : is_failed deed ≡ false → count_by is_failed deeds' ≡ 0
-  still_unfailed fine = count_more is_failed deeds deeds' deed is ∙ ap (λ (n : ℕ). n + cond (is_failed deed) 1 0) unfailed ∙ ap (λ (b : Bool). 0 + cond b 1 0) fine
+module _ (deeds deeds' : List Deed) (deed : Deed) (is : deeds' ≡ deeds ++ deed ∷ []) (unfailed : count_by deed_failed deeds ≡ 0) where
+  pub still_unfailed : deed_failed deed ≡ false → count_by deed_failed deeds' ≡ 0
+  still_unfailed fine = count_more deed_failed deeds deeds' deed is ∙ ap (λ (n : ℕ). n + cond (deed_failed deed) 1 0) unfailed ∙ ap (λ (b : Bool). 0 + cond b 1 0) fine
 
   pub still_stops : StopsAtFailure deeds'
   still_stops =
       let more : length deeds' - 1 ≡ length deeds = omega (arith, ap length is, length-append deeds (deed ∷ [])) in
-      ap (λ (n : ℕ). count_by is_failed (take n deeds')) more ∙ ap (λ (these : List Deed). count_by is_failed (take (length deeds) these)) is
-      ∙ ap (count_by is_failed) (take-append_seam deeds (deed ∷ [])) ∙ unfailed
+      ap (λ (n : ℕ). count_by deed_failed (take n deeds')) more ∙ ap (λ (these : List Deed). count_by deed_failed (take (length deeds) these)) is
+      ∙ ap (count_by deed_failed) (take-append_seam deeds (deed ∷ [])) ∙ unfailed
 
 -- what holds of a result that is no error
 pub where_ok : {T E P : Type 0} (result : Result T E) → is_err result ≡ false → OnOk result P → P

@@ -1,7 +1,7 @@
 // A disk that is a file whose bytes are in memory.
 ghost use Rattle.std.specs.Prelude.{◌≡◌, ◌≤◌, [], length, count_by, false, OnOk, OnErr};
 ghost use Rattle.outside.specs.Bytes.{written};
-ghost use Rattle.real_files.specs.Deeds.{held_after, is_failed, StopsAtFailure};
+ghost use Rattle.real_files.specs.Deeds.{file_after, deed_failed, StopsAtFailure};
 
 use crate::{RawFile, fault};
 use outside::{Disk, Failed};
@@ -16,9 +16,9 @@ pub struct KeptDisk<F: RawFile> {
     number: u64,
     is_stopped: bool,
     faults: u64,
-    ghost replayed: { held.items ≡ held_after (F.first file) (F.deeds file) },
+    ghost replayed: { held.items ≡ file_after (F.first file) (F.deeds file) },
     ghost counted: { length (F.deeds file) ≡ number },
-    ghost unfailed: { is_stopped ≡ false → count_by is_failed (F.deeds file) ≡ 0 },
+    ghost unfailed: { is_stopped ≡ false → count_by deed_failed (F.deeds file) ≡ 0 },
     ghost stops: { StopsAtFailure (F.deeds file) },
 }
 
@@ -66,11 +66,11 @@ fn overwrite(held: &mut Vec<u8>, at: usize, bytes: &[u8]) -> Result<(), AllocErr
 
 impl<F: RawFile> Disk for KeptDisk<F> {
     ghost use Rattle.std.specs.Prelude.{Some, None, true, length, count_by};
-    ghost use Rattle.real_files.specs.Deeds.{images_at, is_write};
+    ghost use Rattle.real_files.specs.Deeds.{file_images_at, deed_writes};
 
     ghost held = { λ disk. Some disk.held.items };
 
-    ghost writes = { λ disk. Some (count_by is_write (F.deeds disk.file)) };
+    ghost writes = { λ disk. Some (count_by deed_writes (F.deeds disk.file)) };
 
     ghost moment = { λ disk. length (F.deeds disk.file) };
 
@@ -78,13 +78,13 @@ impl<F: RawFile> Disk for KeptDisk<F> {
 
     ghost is_honest = { λ disk. true };
 
-    ghost images = { λ disk. images_at (F.first disk.file) (F.deeds disk.file) };
+    ghost images = { λ disk. file_images_at (F.first disk.file) (F.deeds disk.file) };
 
     ghost faults = { λ disk. disk.faults };
 
-    ghost use Rattle.real_files.specs.DeedLaws.{held_is_left};
+    ghost use Rattle.real_files.specs.DeedLaws.{file_is_left};
 
-    ghost held_now = { λ disk image is. held_is_left (F.first disk.file) disk.held.items (F.deeds disk.file) image disk.replayed is };
+    ghost held_now = { λ disk image is. file_is_left (F.first disk.file) disk.held.items (F.deeds disk.file) image disk.replayed is };
 
     fn moment(&self) -> u64 {
         self.number

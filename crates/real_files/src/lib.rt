@@ -2,6 +2,7 @@
 #![tactic(auto)]
 
 mod absent_disk;
+mod file_trace;
 mod kept_disk;
 mod noted_screen;
 mod raw_file;
@@ -9,13 +10,13 @@ mod raw_screen;
 mod read_source;
 mod std_file;
 mod std_out;
-mod trace;
 mod whole;
 
 ghost use Rattle.std.specs.Prelude.{IsErr};
 ghost use Rattle.outside.specs.Causes.{FailsOnlyCounted};
 
 pub use absent_disk::AbsentDisk;
+pub use file_trace::FileTrace;
 pub use kept_disk::KeptDisk;
 pub use noted_screen::NotedScreen;
 use outside::Failed;
@@ -24,7 +25,6 @@ pub use raw_screen::RawScreen;
 pub use read_source::ReadSource;
 pub use std_file::{FileUse, StdFile};
 pub use std_out::StdOut;
-pub use trace::Trace;
 pub use whole::{outside_of, raw_of};
 
 // Counts a fault.

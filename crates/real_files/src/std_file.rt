@@ -4,7 +4,7 @@ ghost use Rattle.std.specs.Fd.{file_raw_fd};
 ghost use Rattle.real_files.specs.Found.{found_by};
 
 use crate::RawFile;
-use crate::trace::{SYNCED, TORE, Trace, UNSYNCED, WROTE};
+use crate::file_trace::{FileTrace, SYNCED, TORE, UNSYNCED, WROTE};
 use outside::Failed;
 use std::alloc::Global;
 use std::fs::{File, Metadata, OpenOptions};
@@ -61,8 +61,8 @@ pub struct StdFile<R: Files<File = File> + AllocGlobal> {
     rt: R,
     path: String,
     place: Place,
-    found: Trace,
-    trace: Trace,
+    found: FileTrace,
+    trace: FileTrace,
 }
 
 impl<R: Files<File = File> + AllocGlobal + Drop> StdFile<R> {
@@ -87,14 +87,14 @@ impl<R: Files<File = File> + AllocGlobal + Drop> StdFile<R> {
             }
             Err(error) => return Err(error),
         };
-        let mut found = Trace::new();
+        let mut found = FileTrace::new();
         found.note(&[WROTE, 0], &bytes);
         let file = StdFile {
             rt,
             path,
             place,
             found,
-            trace: Trace::new(),
+            trace: FileTrace::new(),
         };
         Ok((file, bytes))
     }

@@ -2,7 +2,7 @@
 ghost use Rattle.std.specs.Prelude.{◌≤◌, ◌≡◌, [], length};
 
 use crate::RawScreen;
-use crate::trace::{Trace, WROTE};
+use crate::file_trace::{FileTrace, WROTE};
 use outside::Failed;
 use std::io::ErrorKind;
 
@@ -10,7 +10,7 @@ use std::io::ErrorKind;
 #[derive(Drop)]
 pub struct StdOut<R: Print> {
     rt: R,
-    trace: Trace,
+    trace: FileTrace,
 }
 
 impl<R: Print> StdOut<R> {
@@ -20,7 +20,7 @@ impl<R: Print> StdOut<R> {
     {
         StdOut {
             rt,
-            trace: Trace::new(),
+            trace: FileTrace::new(),
         }
     }
 }

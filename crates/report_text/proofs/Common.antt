@@ -9,9 +9,9 @@ pub use Rattle.std.specs.List.{All, AllByRecursion, flat_map, join_with_byte, li
 pub use Rattle.asm_parse.proofs.TokenLemmas.{each_also, run_length}
 pub use Rattle.byteorder.specs.Endian.{big_bytes, big_number}
 pub use Rattle.desk.specs.Commits.{is_commit}
-pub use Rattle.desk.specs.Lines.{Begin, Busy, Check, Closed, Commit, Cycle, Disk, Doubt, End, Idle, Journal, Left, Line, Lost, NoSegment, Open, Stored, Turn, Victim, Wait, line_text, printed}
+pub use Rattle.desk.specs.ReportLines.{Begin, Busy, Check, Closed, Commit, Cycle, Disk, Doubt, End, Idle, Journal, Left, ReportLine, Lost, NoSegment, Open, Stored, Turn, Victim, Wait, line_text, printed}
 pub use Rattle.hex.specs.Hex.{IsBytes, decode_of, decode_sized, encode_lower, lower_digits}
 pub use Rattle.text_line.proofs.Bytes.{each_byte, empty_is, some_is}
 pub use Rattle.report_text.specs.Line.{commit_told, line_told}
-pub use Rattle.report_text.specs.ReadLines.{IsLine, IsWhole, Tells}
-pub use Rattle.report_text.specs.Words.{IsOneWord, is_feed, is_space, kind_of, parts_of, bytes_in, numbers_in}
+pub use Rattle.report_text.specs.ReadLines.{MayBePut, IsWholeLine, TellsCommit}
+pub use Rattle.report_text.specs.Words.{IsOneWord, is_line_feed, is_space, first_word, words_behind, bytes_printed, numbers_in}

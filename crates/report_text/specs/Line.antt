@@ -1,12 +1,12 @@
 -- The line of the report that a value of the code is.
 use Rattle.std.specs.Prelude.{◌≤◌, length}
-use Rattle.desk.specs.Lines as report
-use Rattle.report_text.specs.declared.line.CommitLine.{CommitLine}
-use Rattle.report_text.specs.declared.line.Line.{Line}
-use Rattle.report_text.specs.declared.line.Line.TheVariants as line
+use Rattle.desk.specs.ReportLines as report
+use Rattle.report_text.specs.declared.report_line.CommitLine.{CommitLine}
+use Rattle.report_text.specs.declared.report_line.Line.{Line}
+use Rattle.report_text.specs.declared.report_line.Line.TheVariants as line
 
 -- the line that a value is
-abbrev pub line_told : Line → report.Line
+abbrev pub line_told : Line → report.ReportLine
 line_told (line.Open number) = report.Open number
 line_told (line.Begin activation name) = report.Begin activation name.now
 line_told (line.Busy activation name) = report.Busy activation name.now
@@ -38,5 +38,5 @@ IsShort (line.Wait activation holders) = length holders.now ≤ 16
 IsShort _ = Unit {0}
 
 -- the commit line that a value is
-abbrev pub commit_told : CommitLine → report.Line
+abbrev pub commit_told : CommitLine → report.ReportLine
 commit_told line = report.Commit line.activation line.number line.steps line.out.items

@@ -3,15 +3,15 @@ use Rattle.std.specs.Prelude.{◌≡◌, ℕ, ◌<◌, ◌^◌, ◌==◌, nat_lt
 use Rattle.std.specs.List.{AllByRecursion, join_with_byte, list_all}
 use Rattle.byteorder.specs.Endian.{big_bytes}
 use Rattle.hex.specs.Hex.{encode_lower}
-use Rattle.desk.specs.Lines.{Line, Open, Begin, Busy, NoSegment, Idle, Turn, Cycle, Victim, Commit, Check, Wait, Journal, Disk, Doubt, Closed, Stored, Lost, Left, End, printed}
+use Rattle.desk.specs.ReportLines.{ReportLine, Open, Begin, Busy, NoSegment, Idle, Turn, Cycle, Victim, Commit, Check, Wait, Journal, Disk, Doubt, Closed, Stored, Lost, Left, End, printed}
 
 -- a space
 abbrev pub is_space : ℕ → Bool
 is_space byte = byte == 32
 
 -- a line feed
-abbrev pub is_feed : ℕ → Bool
-is_feed byte = byte == 10
+abbrev pub is_line_feed : ℕ → Bool
+is_line_feed byte = byte == 10
 
 -- the bytes of a word all come behind the space
 abbrev pub IsOneWord : List ℕ → Type 0
@@ -44,60 +44,60 @@ abbrev pub ArePrinted : (word bytes : List ℕ) → Type 0
 ArePrinted word bytes = (out : List ℕ) → All (λ byte. byte < 256) out → word ≡ printed out → bytes ≡ out
 
 -- the word that a line begins with
-abbrev pub kind_of : Line → List ℕ
-kind_of (Open number) = codes "open"
-kind_of (Begin activation name) = codes "begin"
-kind_of (Busy activation name) = codes "busy"
-kind_of (NoSegment activation name segment) = codes "nosegment"
-kind_of (Idle activation) = codes "idle"
-kind_of (Turn activation ran pages locks) = codes "turn"
-kind_of (Cycle members) = codes "cycle"
-kind_of (Victim activation) = codes "victim"
-kind_of (Commit activation number steps out) = codes "commit"
-kind_of (Check activation code address) = codes "check"
-kind_of (Wait activation holders) = codes "wait"
-kind_of (Journal activation lines limit) = codes "journal"
-kind_of (Disk activation) = codes "disk"
-kind_of (Doubt activation number) = codes "doubt"
-kind_of Closed = codes "closed"
-kind_of (Stored number) = codes "stored"
-kind_of (Lost activation) = codes "lost"
-kind_of (Left activation) = codes "left"
-kind_of (End number) = codes "end"
+abbrev pub first_word : ReportLine → List ℕ
+first_word (Open number) = codes "open"
+first_word (Begin activation name) = codes "begin"
+first_word (Busy activation name) = codes "busy"
+first_word (NoSegment activation name segment) = codes "nosegment"
+first_word (Idle activation) = codes "idle"
+first_word (Turn activation ran pages locks) = codes "turn"
+first_word (Cycle members) = codes "cycle"
+first_word (Victim activation) = codes "victim"
+first_word (Commit activation number steps out) = codes "commit"
+first_word (Check activation code address) = codes "check"
+first_word (Wait activation holders) = codes "wait"
+first_word (Journal activation lines limit) = codes "journal"
+first_word (Disk activation) = codes "disk"
+first_word (Doubt activation number) = codes "doubt"
+first_word Closed = codes "closed"
+first_word (Stored number) = codes "stored"
+first_word (Lost activation) = codes "lost"
+first_word (Left activation) = codes "left"
+first_word (End number) = codes "end"
 
 -- the words behind it
-abbrev pub parts_of : Line → List (List ℕ)
-parts_of (Open number) = decimal number ∷ []
-parts_of (Begin activation name) = decimal activation ∷ name ∷ []
-parts_of (Busy activation name) = decimal activation ∷ name ∷ []
-parts_of (NoSegment activation name segment) = decimal activation ∷ name ∷ decimal segment ∷ []
-parts_of (Idle activation) = decimal activation ∷ []
-parts_of (Turn activation ran pages locks) =
+abbrev pub words_behind : ReportLine → List (List ℕ)
+words_behind (Open number) = decimal number ∷ []
+words_behind (Begin activation name) = decimal activation ∷ name ∷ []
+words_behind (Busy activation name) = decimal activation ∷ name ∷ []
+words_behind (NoSegment activation name segment) = decimal activation ∷ name ∷ decimal segment ∷ []
+words_behind (Idle activation) = decimal activation ∷ []
+words_behind (Turn activation ran pages locks) =
     decimal activation ∷ codes "ran" ∷ decimal ran ∷ codes "page" ∷ decimal pages ∷ codes "lock" ∷ decimal locks ∷ []
-parts_of (Cycle members) = map decimal members
-parts_of (Victim activation) = decimal activation ∷ []
-parts_of (Commit activation number steps out) =
+words_behind (Cycle members) = map decimal members
+words_behind (Victim activation) = decimal activation ∷ []
+words_behind (Commit activation number steps out) =
     decimal activation ∷ codes "number" ∷ decimal number ∷ codes "steps" ∷ decimal steps ∷ codes "out" ∷ printed out ∷ []
-parts_of (Check activation code address) =
+words_behind (Check activation code address) =
     decimal activation ∷ codes "code" ∷ decimal code ∷ codes "at" ∷ encode_lower (big_bytes 4 address) ∷ []
-parts_of (Wait activation holders) = decimal activation ∷ codes "for" ∷ map decimal holders
-parts_of (Journal activation lines limit) =
+words_behind (Wait activation holders) = decimal activation ∷ codes "for" ∷ map decimal holders
+words_behind (Journal activation lines limit) =
     decimal activation ∷ codes "lines" ∷ decimal lines ∷ codes "limit" ∷ decimal limit ∷ []
-parts_of (Disk activation) = decimal activation ∷ []
-parts_of (Doubt activation number) = decimal activation ∷ codes "number" ∷ decimal number ∷ []
-parts_of Closed = []
-parts_of (Stored number) = decimal number ∷ []
-parts_of (Lost activation) = decimal activation ∷ []
-parts_of (Left activation) = decimal activation ∷ []
-parts_of (End number) = decimal number ∷ []
+words_behind (Disk activation) = decimal activation ∷ []
+words_behind (Doubt activation number) = decimal activation ∷ codes "number" ∷ decimal number ∷ []
+words_behind Closed = []
+words_behind (Stored number) = decimal number ∷ []
+words_behind (Lost activation) = decimal activation ∷ []
+words_behind (Left activation) = decimal activation ∷ []
+words_behind (End number) = decimal number ∷ []
 
 -- the list of numbers that a line has: the members of a cycle, or the holders of a wait
-abbrev pub numbers_in : Line → List ℕ
+abbrev pub numbers_in : ReportLine → List ℕ
 numbers_in (Cycle members) = members
 numbers_in (Wait activation holders) = holders
 numbers_in _ = []
 
 -- the bytes that a line tells were printed
-abbrev pub bytes_in : Line → List ℕ
-bytes_in (Commit activation number steps out) = out
-bytes_in _ = []
+abbrev pub bytes_printed : ReportLine → List ℕ
+bytes_printed (Commit activation number steps out) = out
+bytes_printed _ = []

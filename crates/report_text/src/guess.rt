@@ -1,13 +1,15 @@
 // The line that a text can only be, if it is one. Whether it is one shows by writing the line again.
 ghost use Rattle.std.specs.Prelude.{ℕ, List, IfOk};
-ghost use Rattle.desk.specs.Lines as report;
+ghost use Rattle.desk.specs.ReportLines as report;
 ghost use Rattle.job_text.specs.Ready.{IsName};
 ghost use Rattle.report_text.specs.Guesses.{ArePrintedBytes, AreCommitParts, AreListsOf, AreNamedParts, AreListedNumbers, AreWaitParts, IsGuess, IsGuessOf, IsIfParts};
 ghost use Rattle.report_text.specs.Line.{line_told};
-ghost use Rattle.report_text.specs.ReadLines.{HasWidths};
+ghost use Rattle.report_text.specs.ReadLines.{LineHasWidths};
 
-use super::line::Line;
-use super::word::{address, all_small, behind, bytes, first_number, first_small, small, split};
+use super::report_line::Line;
+use super::word_reading::{
+    address, all_small, behind, bytes, first_number, first_small, small, split,
+};
 use std::alloc::{AllocError, Global};
 use text_line::number;
 
@@ -58,7 +60,7 @@ fn bytes_of(alloc: Global, kind: &[u8], rest: &[u8]) -> Result<Vec<u8>, AllocErr
 /// The line that a text without its line feed can only be, whose lists are these.
 pub(crate) fn guess<'a>(lists: &'a Lists, text: &'a [u8]) -> Line<'a>
     ensures is { IsGuess text.now lists.now.numbers.items lists.now.bytes.items (line_told result) }
-    ensures widths { HasWidths (line_told result) }
+    ensures widths { LineHasWidths (line_told result) }
 {
     let (kind, rest) = split(text);
     of_kind(&lists.numbers, &lists.bytes, kind, rest)
@@ -67,7 +69,7 @@ pub(crate) fn guess<'a>(lists: &'a Lists, text: &'a [u8]) -> Line<'a>
 /// The line that begins with this word and has these lists.
 fn of_kind<'a>(numbers: &'a [u32], bytes: &'a [u8], kind: &[u8], rest: &'a [u8]) -> Line<'a>
     ensures is { IsGuessOf kind.now rest.now numbers.now bytes.now (line_told result) }
-    ensures widths { HasWidths (line_told result) }
+    ensures widths { LineHasWidths (line_told result) }
 {
     if kind == b"open".as_slice() {
         Line::Open(number(rest))
@@ -128,7 +130,7 @@ fn named(rest: &[u8]) -> (u32, &[u8])
 /// `nosegment A NAME S`.
 fn no_segment<'a>(rest: &'a [u8]) -> Line<'a>
     ensures is { (a s : ℕ) (name : List ℕ) → IsName name → IsIfParts rest.now (line_told result) (report.NoSegment a name s) }
-    ensures widths { HasWidths (line_told result) }
+    ensures widths { LineHasWidths (line_told result) }
 {
     let (activation, rest) = first_small(rest);
     let (name, rest) = split(rest);
@@ -139,7 +141,7 @@ fn no_segment<'a>(rest: &'a [u8]) -> Line<'a>
 /// `turn A ran E page P lock L`.
 fn turn<'a>(rest: &[u8]) -> Line<'a>
     ensures is { (a r p l : ℕ) → IsIfParts rest.now (line_told result) (report.Turn a r p l) }
-    ensures widths { HasWidths (line_told result) }
+    ensures widths { LineHasWidths (line_told result) }
 {
     let (activation, rest) = first_small(rest);
     let (ran, rest) = first_small(behind(rest));
@@ -166,7 +168,7 @@ fn commit(rest: &[u8]) -> (u32, u64, u64, &[u8])
 /// `check A code C at H`.
 fn check<'a>(rest: &[u8]) -> Line<'a>
     ensures is { (a c h : ℕ) → IsIfParts rest.now (line_told result) (report.Check a c h) }
-    ensures widths { HasWidths (line_told result) }
+    ensures widths { LineHasWidths (line_told result) }
 {
     let (activation, rest) = first_small(rest);
     let (code, rest) = first_small(behind(rest));
@@ -188,7 +190,7 @@ fn wait(rest: &[u8]) -> (u32, &[u8])
 /// `journal A lines L limit M`.
 fn journal<'a>(rest: &[u8]) -> Line<'a>
     ensures is { (a l m : ℕ) → IsIfParts rest.now (line_told result) (report.Journal a l m) }
-    ensures widths { HasWidths (line_told result) }
+    ensures widths { LineHasWidths (line_told result) }
 {
     let (activation, rest) = first_small(rest);
     let (lines, rest) = first_small(behind(rest));
@@ -203,7 +205,7 @@ fn journal<'a>(rest: &[u8]) -> Line<'a>
 /// `doubt A number N`.
 fn doubt<'a>(rest: &[u8]) -> Line<'a>
     ensures is { (a n : ℕ) → IsIfParts rest.now (line_told result) (report.Doubt a n) }
-    ensures widths { HasWidths (line_told result) }
+    ensures widths { LineHasWidths (line_told result) }
 {
     let (activation, rest) = first_small(rest);
     let (number, _) = first_number(behind(rest));

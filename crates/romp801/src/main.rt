@@ -3,7 +3,7 @@
 
 ghost use Rattle.std.specs.Prelude.{◌≡◌, ◌++◌, [], ◌∷◌, ℕ, take, OnOk, OnErr};
 ghost use Rattle.std.specs.Process.{exit_status};
-ghost use Rattle.call_status.specs.Statuses.{number_of, text_of};
+ghost use Rattle.call_status.specs.Statuses.{status_number, error_text};
 ghost use Rattle.real_files.specs.Deeds as deed;
 ghost use Rattle.real_files.specs.Shown.{printed_of};
 
@@ -32,8 +32,8 @@ fn main(rt: HostRuntime) -> ExitCode {
 
 /// Tells a status: its text and a line feed are handed to the screen, or a first part of them where a put fails.
 fn tell<R: RawScreen>(status: &Status, screen: &mut R) -> Result<(), Failed>
-    ensures done { OnOk result (R.puts screen.new ≡ R.puts screen.old ++ deed.Wrote 0 (text_of status.now) ∷ deed.Wrote 0 (10 ∷ []) ∷ []) }
-    ensures failed { OnErr result ((count : ℕ) × (printed_of (R.puts screen.new) ≡ printed_of (R.puts screen.old) ++ take count (text_of status.now ++ 10 ∷ []))) }
+    ensures done { OnOk result (R.puts screen.new ≡ R.puts screen.old ++ deed.Wrote 0 (error_text status.now) ∷ deed.Wrote 0 (10 ∷ []) ∷ []) }
+    ensures failed { OnErr result ((count : ℕ) × (printed_of (R.puts screen.new) ≡ printed_of (R.puts screen.old) ++ take count (error_text status.now ++ 10 ∷ []))) }
 {
     screen.put(status_text(status).as_str().as_bytes(), 0)?;
     screen.put(b"\n", 0)
@@ -41,7 +41,7 @@ fn tell<R: RawScreen>(status: &Status, screen: &mut R) -> Result<(), Failed>
 
 /// How a call with this status ends the program: with its number.
 fn code_of(status: &Status) -> ExitCode
-    ensures { exit_status result ≡ number_of status.now }
+    ensures { exit_status result ≡ status_number status.now }
 {
     ExitCode::from(status.number())
 }

@@ -21,22 +21,22 @@ pub use Rattle.asm_parse.specs.declared.statement.Statement.{Statement}
 pub use Rattle.romp_table.specs.declared.table.Use.{Use}
 pub use Rattle.romp_asm.specs.Encoding.{code_bytes, data_bytes, encoding_of, in_range, then_value}
 pub use Rattle.romp_asm.specs.Field.{even_at_most}
-pub use Rattle.romp_asm.specs.Labels.{AreAlone, AreTables, IsNew, IsTable, addresses_in, found_in, given_in, noted, place_of, repeated_in, stands_before, LabelKey, word_number}
+pub use Rattle.romp_asm.specs.Labels.{AreAlone, AreTables, IsLabelNew, IsTable, addresses_in, found_in, given_in, label_noted, label_place, repeated_in, stands_before, LabelKey, word_number}
 unfoldable pub use Rattle.romp_asm.specs.Labels.{place_from}
 pub use Rattle.romp_asm.specs.Laid.{AreReadAs, IsLaid, IsReadAs, LaidTo, image_joined}
-pub use Rattle.romp_asm.specs.Layout.{Parts, assembled, entry_by, entry_of, fitted, has_label_of, is_entry, is_free, parts_of, piece_before, piece_of, takes_window, windows_of, with_entry, with_image, with_window}
+pub use Rattle.romp_asm.specs.Layout.{Parts, assembled, entry_by, entry_of, fitted, has_label_of, is_entry, is_free, parts_of, piece_before, piece_of, takes_window, windows_of, entry_after, with_image, with_window}
 unfoldable pub use Rattle.romp_asm.specs.Layout.{image_behind}
-pub use Rattle.romp_asm.specs.Size.{SameMnemonic, form_size, size_of, total}
+pub use Rattle.romp_asm.specs.Size.{SameMnemonic, form_size, size_of, total_size}
 pub use Rattle.romp_asm.specs.Sources.{defines, meant, name_in, named, renamed_body, renamed_expr, renamed_operand, joined}
 unfoldable pub use Rattle.romp_asm.specs.Sources.{joined_from}
 pub use Rattle.romp_asm.specs.Value.{address_of, addresses_of, is_labelled, known_before, known_of, knowns_of, result_map, value_of}
 unfoldable pub use Rattle.romp_asm.specs.Value.{address_from}
 pub use Rattle.romp_asm.specs.declared.value.Place.{Place}
 pub use Rattle.romp_asm.specs.declared.value.Scope.{Scope}
-pub use Rattle.romp_asm.specs.declared.value.Table.{Table}
+pub use Rattle.romp_asm.specs.declared.value.LabelTable.{LabelTable}
 pub use Rattle.std.proofs.lemmas.Grind.{common_steps}
 pub use Rattle.std.proofs.lemmas.Slice.Eq.{bytes_eq-Decides}
-pub use Rattle.romp_asm.specs.Exported.{AreExports, HasLabels, told_of}
-pub use Rattle.romp_asm.specs.Linked.{export, export_fault, exported, exporter, gives, linked, with_exports}
+pub use Rattle.romp_asm.specs.Exported.{AreExports, HasLabels, export_told}
+pub use Rattle.romp_asm.specs.Linked.{export, export_kind, exported, exporter, gives, linked, with_exports}
 unfoldable pub use Rattle.romp_asm.specs.Linked.{fault_among, fault_behind}
 pub use Rattle.romp_asm.specs.declared.exports.Exports.{Exports}

@@ -1,5 +1,5 @@
 -- Exports, source by source and line by line.
-use Rattle.romp_asm.proofs.Common.{◌≡◌, ℕ, ◌+◌, ◌<◌, ◌≤◌, Bool, true, false, is_some, cond, List, [], ◌∷◌, ◌++◌, length, take, drop, get_or, Option, Some, None, Result, Ok, refl, sym, ap, ◌∙◌, arith, append_assoc, append-nil, add-one, ◌||◌, if◌then◌else◌, flat_map, position_from, AllByRecursion, option_map, option_or, bytes_eq, take_more, take_all, drop_all, Statement, found_in, defines, joined, AreExports, told_of, exported, exporter, export, export_fault, fault_among, fault_behind, gives, linked, with_exports, Exports, fun_ext, drop-cons, bytes_eq-Decides, Parts, assembled, is_labelled, nat_tests}
+use Rattle.romp_asm.proofs.Common.{◌≡◌, ℕ, ◌+◌, ◌<◌, ◌≤◌, Bool, true, false, is_some, cond, List, [], ◌∷◌, ◌++◌, length, take, drop, get_or, Option, Some, None, Result, Ok, refl, sym, ap, ◌∙◌, arith, append_assoc, append-nil, add-one, ◌||◌, if◌then◌else◌, flat_map, position_from, AllByRecursion, option_map, option_or, bytes_eq, take_more, take_all, drop_all, Statement, found_in, defines, joined, AreExports, export_told, exported, exporter, export, export_kind, fault_among, fault_behind, gives, linked, with_exports, Exports, fun_ext, drop-cons, bytes_eq-Decides, Parts, assembled, is_labelled, nat_tests}
 use Rattle.std.proofs.lemmas.List.Folds.{list_any-append}
 use Rattle.romp_asm.proofs.SourcesLemmas.{assembled-alone}
 
@@ -39,7 +39,7 @@ told_by line known again = if known then (if again then Some (line, 16) else Non
 -- what is kept of exports behind sources and so many lines of one more
 pub record AreSoFar (exports : Exports) (sources : List (List Statement)) (source : List Statement) (i : ℕ) : Type 0 where
   pub givers : (word : List ℕ) → found_in exports.givers word ≡ option_or (exporter sources word) (if export (take i source) word then Some (length sources) else None)
-  pub fault : option_or (told_of exports.fault) (fault_among source (flat sources ++ take i source) (drop i source)) ≡ option_or (fault_behind [] sources) (fault_among source (flat sources) source)
+  pub fault : option_or (export_told exports.fault) (fault_among source (flat sources ++ take i source) (drop i source)) ≡ option_or (fault_behind [] sources) (fault_among source (flat sources) source)
 
 module _ (sources : List (List Statement)) (source : List Statement) where
   pub so_far_start : (exports : Exports) → AreExports exports sources → AreSoFar exports sources source 0
@@ -52,7 +52,7 @@ module _ (sources : List (List Statement)) (source : List Statement) where
       let all = take_all i source past in
       record {
         givers = λ word. rw all at (are.givers word) ∙ sym (exporter-push sources source word);
-        fault = sym (or_none (told_of exports.fault)) ∙ rw (drop_all i source past) at are.fault
+        fault = sym (or_none (export_told exports.fault)) ∙ rw (drop_all i source past) at are.fault
             ∙ sym (fault-push [] sources source);
       }
 
@@ -64,7 +64,7 @@ module _ (sources : List (List Statement)) (source : List Statement) where
     behind = rw (drop-cons source i one, ← here, add-one) refl
 
     abbrev fault_here : Option (ℕ × ℕ)
-    fault_here = option_map (λ kind. (one.line, kind)) (export_fault source (flat sources ++ take i source) one.body)
+    fault_here = option_map (λ kind. (one.line, kind)) (export_kind source (flat sources ++ take i source) one.body)
 
     abbrev later : Option (ℕ × ℕ)
     later = fault_among source (flat sources ++ take (i + 1) source) (drop (i + 1) source)
@@ -94,7 +94,7 @@ module _ (sources : List (List Statement)) (source : List Statement) where
       givers_on word = grind (arith, nat_tests, givers_more word, are.givers word, export-on word, says)
 
       pub so_far_export : (known : Bool) → known ≡ defines source label
-          → told_of new.fault ≡ option_or (told_of old.fault) (told_by one.line known (is_some (found_in old.givers label)))
+          → export_told new.fault ≡ option_or (export_told old.fault) (told_by one.line known (is_some (found_in old.givers label)))
           → AreSoFar new sources source (i + 1)
       so_far_export known is fault =
           record { givers = givers_on; fault = grind (arith, nat_tests, fault, is, named_before, says, fault-on, are.fault) }

@@ -1,6 +1,6 @@
 -- A program, as its statements are laid one after the other.
-use Rattle.romp_asm.proofs.Common.{◌≡◌, ℕ, ℤ, pos, suc, zero, ◌+◌, ◌<◌, ◌≤◌, Bool, false, is_some, List, [], ◌∷◌, ◌++◌, length, take, drop, get_or, Option, None, Result, Ok, refl, sym, ◌∙◌, arith, append_assoc, append-nil, add-one, length-append, replicate, unwrap_or, option_map, drop-cons, nat_tests, drop_all, get_or_default, take_all, take_more, sum_by_push, fold_push, Statement, Place, addresses_in, found_in, place_from, place_of, repeated_in, stands_before, AreReadAs, IsLaid, IsReadAs, LaidTo, image_joined, Scope, assembled, entry_of, has_label_of, image_behind, parts_of, piece_before, piece_of, windows_of, with_image, size_of, total, address_from, addresses_of}
-use Rattle.asm_parse.specs.declared.fault.AsmFault.{AsmFault}
+use Rattle.romp_asm.proofs.Common.{◌≡◌, ℕ, ℤ, pos, suc, zero, ◌+◌, ◌<◌, ◌≤◌, Bool, false, is_some, List, [], ◌∷◌, ◌++◌, length, take, drop, get_or, Option, None, Result, Ok, refl, sym, ◌∙◌, arith, append_assoc, append-nil, add-one, length-append, replicate, unwrap_or, option_map, drop-cons, nat_tests, drop_all, get_or_default, take_all, take_more, sum_by_push, fold_push, Statement, Place, addresses_in, found_in, place_from, label_place, repeated_in, stands_before, AreReadAs, IsLaid, IsReadAs, LaidTo, image_joined, Scope, assembled, entry_of, has_label_of, image_behind, parts_of, piece_before, piece_of, windows_of, with_image, size_of, total_size, address_from, addresses_of}
+use Rattle.asm_parse.specs.declared.asm_fault.AsmFault.{AsmFault}
 use Rattle.flat_machine.specs.declared.machine.Program.{Program}
 use Rattle.asm_parse.specs.Answers.{IsTextFaultOf}
 use Rattle.asm_parse.specs.Text.{at_line}
@@ -28,7 +28,7 @@ among_first bound index at (x ∷ statements) (suc n) word h =
     grind (arith, nat_tests, among_first bound (index + 1) (at + size_of x.body) statements n word)
 
 -- where no source gives a word, the table tells the addresses of all labels
-pub all_addresses : (scope : Scope) (statements : List Statement) → ((word : List ℕ) → found_in scope.own.now.labels word ≡ place_of statements word) → ((word : List ℕ) → found_in scope.givers.now word ≡ None) → addresses_in scope ≡ addresses_of statements
+pub all_addresses : (scope : Scope) (statements : List Statement) → ((word : List ℕ) → found_in scope.own.now.labels word ≡ label_place statements word) → ((word : List ℕ) → found_in scope.givers.now word ≡ None) → addresses_in scope ≡ addresses_of statements
 all_addresses scope statements table none = grind (arith, nat_tests, address_same, none, table)
 
 fault_by : (line : ℕ) (image : List ℕ) (reading : Result (List ℕ) ℕ) (others : Result (List ℕ) (ℕ × ℕ)) (all : List Statement) (whole : Result (List ℕ) (ℕ × ℕ)) (fault : AsmFault) → IsTextFaultOf fault (at_line line reading) → image_joined image (piece_before line reading others) ≡ whole → IsTextFaultOf fault (with_image all whole)
@@ -39,7 +39,7 @@ module _ (addresses : List ℕ → Option ℤ) (repeated : Bool) (statement : St
   abbrev reading : Result (List ℕ) ℕ
   reading = piece_of addresses repeated (length old.image.items) old.entry old.windows statement.body
 
-  same_reading : reading ≡ piece_of (addresses_of all) (has_label_of before named) (total before) (entry_of (addresses_of all) before) (windows_of before) named.body
+  same_reading : reading ≡ piece_of (addresses_of all) (has_label_of before named) (total_size before) (entry_of (addresses_of all) before) (windows_of before) named.body
   same_reading = grind (arith, nat_tests)
 
   so_far : image_joined old.image.items (piece_before statement.line reading (image_behind all (before ++ named ∷ []) rest)) ≡ image_behind all [] all
@@ -68,7 +68,7 @@ unfolding image_behind
 laid_all all output program to image entry windows = grind (arith, nat_tests, append-nil, so_far)
 
 -- the statements of a text are read as themselves
-pub text_as_itself : (scope : Scope) (all : List Statement) → ((word : List ℕ) → found_in scope.own.now.labels word ≡ place_of all word) → ((word : List ℕ) → found_in scope.givers.now word ≡ None) → AreReadAs scope all all [] all
+pub text_as_itself : (scope : Scope) (all : List Statement) → ((word : List ℕ) → found_in scope.own.now.labels word ≡ label_place all word) → ((word : List ℕ) → found_in scope.givers.now word ≡ None) → AreReadAs scope all all [] all
 text_as_itself scope all table none = record {
   many = refl;
   each = λ index one other within here there.

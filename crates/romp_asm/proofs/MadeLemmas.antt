@@ -1,5 +1,5 @@
 -- The program that an entry address, windows and data make.
-use Rattle.romp_asm.proofs.Common.{AllByRecursion, fold, eq-eqb, le-leb, le-ltb, set_at, fold_push, sum_by_push, Statement, Body, Data, Window, Entry, encoding_of, even_at_most, Parts, assembled, entry_of, image_behind, is_entry, is_free, takes_window, windows_of, with_entry, with_window, size_of, total, addresses_of, ◌≡◌, ℕ, ℤ, pos, zero, suc, ◌+◌, ◌-◌, ◌%◌, ◌<◌, ◌≤◌, ◌&&◌, true, false, is_some, List, [], ◌∷◌, ◌++◌, length, map, get_or, replicate, slice_get, Option, Some, None, Ok, refl, sym, ap, ◌∙◌, arith, append_assoc, length-append, nat_tests}
+use Rattle.romp_asm.proofs.Common.{AllByRecursion, fold, eq-eqb, le-leb, le-ltb, set_at, fold_push, sum_by_push, Statement, Body, Data, Window, Entry, encoding_of, even_at_most, Parts, assembled, entry_of, image_behind, is_entry, is_free, takes_window, windows_of, entry_after, with_window, size_of, total_size, addresses_of, ◌≡◌, ℕ, ℤ, pos, zero, suc, ◌+◌, ◌-◌, ◌%◌, ◌<◌, ◌≤◌, ◌&&◌, true, false, is_some, List, [], ◌∷◌, ◌++◌, length, map, get_or, replicate, slice_get, Option, Some, None, Ok, refl, sym, ap, ◌∙◌, arith, append_assoc, length-append, nat_tests}
 use Rattle.std.specs.Int.{from_be_bytes, w32}
 use Rattle.std.proofs.lemmas.Nat.{be_bytes_4}
 use Rattle.flat_machine.specs.declared.machine.Window.{Window as Sight}
@@ -42,7 +42,7 @@ IsLegalPlace None = Unit {0}
 IsLegalPlace (Some window) = (1 ≤ window.segment) × (window.segment ≤ 3839)
 
 -- the bytes of one statement more
-total_push : (before : List Statement) (s : Statement) → total (before ++ s ∷ []) ≡ total before + size_of s.body
+total_push : (before : List Statement) (s : Statement) → total_size (before ++ s ∷ []) ≡ total_size before + size_of s.body
 total_push before s = sum_by_push (λ (statement : Statement). size_of statement.body) before s
 
 -- the windows after one statement more
@@ -51,15 +51,15 @@ windows_push before s = fold_push (λ windows (statement : Statement). with_wind
 
 -- a statement that may stand where it does
 one_more : (all before rest : List Statement) (number : ℕ) (body : Body) (bytes others : List ℕ)
-    → encoding_of (addresses_of all) (total before) body ≡ Ok bytes
+    → encoding_of (addresses_of all) (total_size before) body ≡ Ok bytes
     → (is_entry body && is_some (entry_of (addresses_of all) before)) ≡ false
-    → total before + size_of body ≤ 16384
+    → total_size before + size_of body ≤ 16384
     → takes_window (windows_of before) body ≡ true
     → image_behind all (before ++ plain_at number body ∷ []) rest ≡ Ok others
     → image_behind all before (plain_at number body ∷ rest) ≡ Ok (bytes ++ others)
 unfolding image_behind
 one_more all before rest number body bytes others encoded first fits takes behind =
-    rw (first, encoded, le-ltb 16384 (total before + size_of body) fits, takes, behind) refl
+    rw (first, encoded, le-ltb 16384 (total_size before + size_of body) fits, takes, behind) refl
 
 byte_at : (bytes : List ℕ) → AllByRecursion IsByte bytes → (i : ℕ) → get_or bytes i 0 < 256
 byte_at [] are i = omega arith
@@ -74,16 +74,16 @@ word_encoded : (addresses : List ℕ → Option ℤ) (at a b c d : ℕ) → AllB
 word_encoded addresses at a b c d are = grind (arith, nat_tests, le-leb, word_small, be_bytes_4, byte_at)
 
 -- bytes one by one
-bytes_made : (all before : List Statement) (number : ℕ) (bytes : List ℕ) → AllByRecursion IsByte bytes → total before + length bytes ≤ 16384 → image_behind all before (made number (map byte_body bytes)) ≡ Ok bytes
+bytes_made : (all before : List Statement) (number : ℕ) (bytes : List ℕ) → AllByRecursion IsByte bytes → total_size before + length bytes ≤ 16384 → image_behind all before (made number (map byte_body bytes)) ≡ Ok bytes
 unfolding image_behind
 bytes_made all before number [] are fits = refl
 bytes_made all before number (byte ∷ bytes) are fits = grind (arith, nat_tests, le-leb, total_push, bytes_made all (before ++ plain_at number (byte_body byte) ∷ []) (number + 1) bytes are.1 (omega (arith, total_push before (plain_at number (byte_body byte)))))
 
 -- an image
-image_made : (all before : List Statement) (number : ℕ) (bytes : List ℕ) → AllByRecursion IsByte bytes → total before + length bytes ≤ 16384 → image_behind all before (made number (image_bodies bytes)) ≡ Ok bytes
+image_made : (all before : List Statement) (number : ℕ) (bytes : List ℕ) → AllByRecursion IsByte bytes → total_size before + length bytes ≤ 16384 → image_behind all before (made number (image_bodies bytes)) ≡ Ok bytes
 image_made all before number (a ∷ b ∷ c ∷ d ∷ bytes) are fits =
     let body = Data 4 (Number (pos (from_be_bytes w32 (a ∷ b ∷ c ∷ d ∷ [])))) in
-    one_more all before (made (number + 1) (image_bodies bytes)) number body (a ∷ b ∷ c ∷ d ∷ []) bytes (word_encoded (addresses_of all) (total before) a b c d (are.0, (are.1.0, (are.1.1.0, (are.1.1.1.0, tt))))) refl (omega arith) refl
+    one_more all before (made (number + 1) (image_bodies bytes)) number body (a ∷ b ∷ c ∷ d ∷ []) bytes (word_encoded (addresses_of all) (total_size before) a b c d (are.0, (are.1.0, (are.1.1.0, (are.1.1.1.0, tt))))) refl (omega arith) refl
     (image_made all (before ++ plain_at number body ∷ []) (number + 1) bytes are.1.1.1.1 (omega (arith, total_push before (plain_at number body))))
 image_made all before number bytes are fits = bytes_made all before number bytes are fits
 
@@ -97,7 +97,7 @@ takes : (done windows : List (Option Sight)) (register : ℕ) (window : Sight) �
 takes done windows register window is legal = grind (arith, nat_tests, le-leb, free_at, legal)
 
 -- windows, and an image behind them
-windows_made : (all before : List Statement) (number register : ℕ) (done windows : List (Option Sight)) (image : List ℕ) → AllByRecursion IsLegalPlace windows → length done + 1 ≡ register → windows_of before ≡ done ++ replicate (length windows) None → AllByRecursion IsByte image → total before + length image ≤ 16384
+windows_made : (all before : List Statement) (number register : ℕ) (done windows : List (Option Sight)) (image : List ℕ) → AllByRecursion IsLegalPlace windows → length done + 1 ≡ register → windows_of before ≡ done ++ replicate (length windows) None → AllByRecursion IsByte image → total_size before + length image ≤ 16384
     → image_behind all before (made number (window_bodies register windows ++ image_bodies image)) ≡ Ok image
 windows_made all before number register done [] image legal is noted are fits = image_made all before number image are fits
 windows_made all before number register done (None ∷ windows) image legal is noted are fits =
@@ -128,7 +128,7 @@ windows_kept windows number [] are = refl
 windows_kept windows number (Data count value ∷ bodies) are = windows_kept windows (number + 1) bodies are.1
 windows_kept windows number (_ ∷ bodies) are = absurd are.0
 
-entry_kept : (addresses : List ℕ → Option ℤ) (entry : Option ℕ) (number : ℕ) (bodies : List Body) → AllByRecursion IsData bodies → fold (λ entry (statement : Statement). with_entry addresses entry statement.body) entry (made number bodies) ≡ entry
+entry_kept : (addresses : List ℕ → Option ℤ) (entry : Option ℕ) (number : ℕ) (bodies : List Body) → AllByRecursion IsData bodies → fold (λ entry (statement : Statement). entry_after addresses entry statement.body) entry (made number bodies) ≡ entry
 entry_kept addresses entry number [] are = refl
 entry_kept addresses entry number (Data count value ∷ bodies) are = entry_kept addresses entry (number + 1) bodies are.1
 entry_kept addresses entry number (_ ∷ bodies) are = absurd are.0
@@ -151,7 +151,7 @@ windows_noted number register done (Some window ∷ windows) bodies is are =
 
 -- windows keep the entry address
 entry_stays : (addresses : List ℕ → Option ℤ) (entry : Option ℕ) (number register : ℕ) (windows : List (Option Sight)) (bodies : List Body) → AllByRecursion IsData bodies
-    → fold (λ entry (statement : Statement). with_entry addresses entry statement.body) entry (made number (window_bodies register windows ++ bodies)) ≡ entry
+    → fold (λ entry (statement : Statement). entry_after addresses entry statement.body) entry (made number (window_bodies register windows ++ bodies)) ≡ entry
 entry_stays addresses entry number register [] bodies are = entry_kept addresses entry number bodies are
 entry_stays addresses entry number register (None ∷ windows) bodies are = entry_stays addresses entry number (register + 1) windows bodies are
 entry_stays addresses entry number register (Some window ∷ windows) bodies are = entry_stays addresses entry (number + 1) (register + 1) windows bodies are
@@ -179,7 +179,7 @@ source_made number parts are few small even legal long = rw (image, entry, windo
 
     entry : entry_of (addresses_of all) all ≡ Some parts.entry
     entry =
-        ap (λ entry. fold (λ entry (statement : Statement). with_entry (addresses_of all) entry statement.body) entry (made (number + 1) (window_bodies 1 parts.windows ++ image_bodies parts.image))) even_told
+        ap (λ entry. fold (λ entry (statement : Statement). entry_after (addresses_of all) entry statement.body) entry (made (number + 1) (window_bodies 1 parts.windows ++ image_bodies parts.image))) even_told
         ∙ (entry_stays (addresses_of all) (Some parts.entry) (number + 1) 1 parts.windows (image_bodies parts.image) (image_data parts.image))
 
     windows : windows_of all ≡ parts.windows

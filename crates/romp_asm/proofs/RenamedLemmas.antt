@@ -1,5 +1,5 @@
 -- A statement whose labels are replaced by other words is read as it was.
-use Rattle.romp_asm.proofs.Common.{◌≡◌, ℕ, ℤ, Bool, List, [], ◌∷◌, map, Option, Result, refl, ap, ◌∙◌, Body, encoding_of, fitted, piece_of, with_entry, with_window, size_of, renamed_body, renamed_operand, knowns_of, nat_tests, arith}
+use Rattle.romp_asm.proofs.Common.{◌≡◌, ℕ, ℤ, Bool, List, [], ◌∷◌, map, Option, Result, refl, ap, ◌∙◌, Body, encoding_of, fitted, piece_of, entry_after, with_window, size_of, renamed_body, renamed_operand, knowns_of, nat_tests, arith}
 use Rattle.flat_machine.specs.declared.machine.Window.{Window as Sight}
 use Rattle.asm_parse.specs.declared.statement.Operand.{Operand}
 
@@ -17,7 +17,7 @@ module _ (addresses : List ℕ → Option ℤ) (name : List ℕ → List ℕ) wh
   pub size_renamed : (body : Body) → size_of body ≡ size_of (renamed_body name body)
   size_renamed body = grind (arith, nat_tests)
 
-  pub entry_renamed : (entry : Option ℕ) (body : Body) → with_entry by_name entry body ≡ with_entry addresses entry (renamed_body name body)
+  pub entry_renamed : (entry : Option ℕ) (body : Body) → entry_after by_name entry body ≡ entry_after addresses entry (renamed_body name body)
   entry_renamed entry body = grind (arith, nat_tests)
 
   pub window_renamed : (windows : List (Option Sight)) (body : Body) → with_window windows body ≡ with_window windows (renamed_body name body)

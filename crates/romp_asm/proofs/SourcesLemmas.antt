@@ -1,14 +1,14 @@
 -- Where the labels of several sources stand.
-use Rattle.romp_asm.proofs.Common.{◌≡◌, inl, inr, ℕ, ℤ, pos, suc, ◌+◌, ◌<◌, ◌≤◌, false, is_some, List, [], ◌∷◌, ◌++◌, length, map, take, drop, get_or, sum_by, Option, Some, None, refl, sym, ap, subst, ◌∙◌, arith, append-nil, append_assoc, length-append, list_any, option_map, option_or, fun_ext, drop-cons, cases_lt, nat_tests, get_or_push, get_or_append_left, get_or_default, get_or-map, take-append-le, take_all, take_more, take-map, map-append, length-map, length-take-le, take-append-drop, fold_push, sum_by-append, sum_by-cons, Statement, Place, Scope, Table, addresses_in, found_in, repeated_in, stands_before, AreAlone, AreTables, IsTable, AreReadAs, IsReadAs, assembled, entry_of, has_label_of, image_behind, piece_of, windows_of, size_of, total, joined_from, meant, name_in, named, renamed_body, address_from, address_of, addresses_of, is_labelled, option_and_then, slice_get}
+use Rattle.romp_asm.proofs.Common.{◌≡◌, inl, inr, ℕ, ℤ, pos, suc, ◌+◌, ◌<◌, ◌≤◌, false, is_some, List, [], ◌∷◌, ◌++◌, length, map, take, drop, get_or, sum_by, Option, Some, None, refl, sym, ap, subst, ◌∙◌, arith, append-nil, append_assoc, length-append, list_any, option_map, option_or, fun_ext, drop-cons, cases_lt, nat_tests, get_or_push, get_or_append_left, get_or_default, get_or-map, take-append-le, take_all, take_more, take-map, map-append, length-map, length-take-le, take-append-drop, fold_push, sum_by-append, sum_by-cons, Statement, Place, Scope, LabelTable, addresses_in, found_in, repeated_in, stands_before, AreAlone, AreTables, IsTable, AreReadAs, IsReadAs, assembled, entry_of, has_label_of, image_behind, piece_of, windows_of, size_of, total_size, joined_from, meant, name_in, named, renamed_body, address_from, address_of, addresses_of, is_labelled, option_and_then, slice_get}
 use Rattle.std.proofs.lemmas.Option.{slice_get-get_or, slice_get_past}
 use Rattle.romp_asm.proofs.LayoutLemmas.{address_same, among_first}
 use Rattle.romp_asm.proofs.RenamedLemmas.{entry_renamed, piece_renamed, size_renamed, window_renamed}
 
 -- one source more
-pub tables_more : (tables : List Table) (sources : List (List Statement)) (table : Table) (source : List Statement) → AreTables tables sources → IsTable table (sum_by total sources) source → AreTables (tables ++ table ∷ []) (sources ++ source ∷ [])
+pub tables_more : (tables : List LabelTable) (sources : List (List Statement)) (table : LabelTable) (source : List Statement) → AreTables tables sources → IsTable table (sum_by total_size sources) source → AreTables (tables ++ table ∷ []) (sources ++ source ∷ [])
 tables_more tables sources table source are is = grind (arith, nat_tests, length-append, cases_lt, get_or_append_left, take-append-le, get_or_push, take_all)
 
-total-cons : (x : Statement) (xs : List Statement) → total (x ∷ xs) ≡ size_of x.body + total xs
+total-cons : (x : Statement) (xs : List Statement) → total_size (x ∷ xs) ≡ size_of x.body + total_size xs
 total-cons x xs = sum_by-cons (λ (statement : Statement). size_of statement.body) x xs
 
 nothing-named : (at : ℕ) (word : List ℕ) → address_from at [] word ≡ None
@@ -19,7 +19,7 @@ pub or_none : {A : Type 0} (found : Option A) → option_or found None ≡ found
 or_none found = grind (arith, nat_tests)
 
 -- the address of a label in statements behind others
-address-append : (at next : ℕ) (xs ys : List Statement) (word : List ℕ) → next ≡ at + total xs
+address-append : (at next : ℕ) (xs ys : List Statement) (word : List ℕ) → next ≡ at + total_size xs
     → address_from at (xs ++ ys) word ≡ option_or (address_from at xs word) (address_from next ys word)
 unfolding address_from
 address-append at next [] ys word is = grind (arith, nat_tests)
@@ -33,7 +33,7 @@ has_address at [] word = refl
 has_address at (x ∷ xs) word = grind (arith, nat_tests, has_address (at + size_of x.body) xs word)
 
 module _ (giver : List ℕ → Option ℕ) where
-  total-named : (source : ℕ) (whole xs : List Statement) → total (map (named giver source whole) xs) ≡ total xs
+  total-named : (source : ℕ) (whole xs : List Statement) → total_size (map (named giver source whole) xs) ≡ total_size xs
   total-named source whole [] = refl
   total-named source whole (x ∷ xs) =
       omega (arith, total-named source whole xs, total-cons x xs, total-cons (named giver source whole x) (map (named giver source whole) xs), size_renamed (addresses_of []) (meant giver source whole) x.body)
@@ -48,12 +48,12 @@ module _ (giver : List ℕ → Option ℕ) where
   address-other source other at whole [] word apart = refl
   address-other source other at whole (x ∷ xs) word apart = grind (arith, nat_tests, address-other source other (at + size_of (renamed_body (meant giver source whole) x.body)) whole xs word)
 
-  total-joined : (first : ℕ) (sources : List (List Statement)) → total (joined_from giver first sources) ≡ sum_by total sources
+  total-joined : (first : ℕ) (sources : List (List Statement)) → total_size (joined_from giver first sources) ≡ sum_by total_size sources
   unfolding joined_from
   total-joined first [] = refl
   total-joined first (source ∷ sources) =
       sum_by-append (λ (statement : Statement). size_of statement.body) (map (named giver first source) source) (joined_from giver (first + 1) sources)
-      ∙ omega (arith, total-named first source source, total-joined (first + 1) sources, sum_by-cons total source sources)
+      ∙ omega (arith, total-named first source source, total-joined (first + 1) sources, sum_by-cons total_size source sources)
 
   -- no source of these has the name
   address-outside : (first other at : ℕ) (sources : List (List Statement)) (word : List ℕ) → ((k : ℕ) → k < length sources → other ≡ first + k → ⊥) → address_from at (joined_from giver first sources) (name_in other word) ≡ None
@@ -64,7 +64,7 @@ module _ (giver : List ℕ → Option ℕ) where
         address-append at _ (map (named giver first source) source) (joined_from giver (first + 1) sources) (name_in other word) refl,
         address-other first other at source source word (λ same. apart 0 (omega arith) (omega (arith, same))),
       )
-      (address-outside (first + 1) other (at + total (map (named giver first source) source)) sources word (λ k within same. apart (k + 1) (omega (arith, within)) (omega (arith, same))))
+      (address-outside (first + 1) other (at + total_size (map (named giver first source) source)) sources word (λ k within same. apart (k + 1) (omega (arith, within)) (omega (arith, same))))
 
   joined-append : (first next : ℕ) (xs ys : List (List Statement)) → next ≡ first + length xs
       → joined_from giver first (xs ++ ys) ≡ joined_from giver first xs ++ joined_from giver next ys
@@ -95,7 +95,7 @@ module _ (giver : List ℕ → Option ℕ) where
       source = get_or sources place []
 
       abbrev start : ℕ
-      start = sum_by total (take place sources)
+      start = sum_by total_size (take place sources)
 
       abbrev before : List Statement
       before = joined_from giver 0 (take place sources)
@@ -103,7 +103,7 @@ module _ (giver : List ℕ → Option ℕ) where
       front : (word : List ℕ) → address_from 0 before (name_in place word) ≡ None
       front word = address-outside 0 place 0 (take place sources) word (λ k inside same. let few : length (take place sources) ≡ place = length-take-le place sources (omega (arith, within)) in omega (arith, inside, same, few))
 
-      starts : start ≡ 0 + total before
+      starts : start ≡ 0 + total_size before
       starts = omega (arith, total-joined 0 (take place sources))
 
       -- a name among the first of its source's statements
@@ -113,7 +113,7 @@ module _ (giver : List ℕ → Option ℕ) where
             address-append 0 start before (map (named giver place source) xs ++ rest) (name_in place word) starts,
             front word,
             address-append start _ (map (named giver place source) xs) rest (name_in place word) refl,
-            none (start + total (map (named giver place source) xs)),
+            none (start + total_size (map (named giver place source) xs)),
             or_none,
           )
           (address-own place start source xs word)
@@ -141,13 +141,13 @@ module _ (scope : Scope) (sources : List (List Statement)) (are : AreTables scop
   address_in_place place = option_map (λ (place : Place). place.address) place
 
   -- the label that a source gives
-  given : (word : List ℕ) (place : ℕ) → address_in_place (option_and_then (λ (table : Table). found_in table.labels word) (slice_get scope.tables.now place)) ≡ addresses_of whole (name_in place word)
+  given : (word : List ℕ) (place : ℕ) → address_in_place (option_and_then (λ (table : LabelTable). found_in table.labels word) (slice_get scope.tables.now place)) ≡ addresses_of whole (name_in place word)
   given word place = elim (cases_lt place (length sources)) [
     | inl less ↦
         let table = get_or scope.tables.now place scope.own.now in
         let inside : place < length scope.tables.now = omega (arith, less, are.many) in
         let is = are.each place table inside (get_or_default scope.tables.now place scope.own.now table inside) in
-        rw (slice_get-get_or scope.tables.now place scope.own.now inside, is.found word, address-name giver sources place less word) (address_same 0 (sum_by total (take place sources)) (get_or sources place []) word)
+        rw (slice_get-get_or scope.tables.now place scope.own.now inside, is.found word, address-name giver sources place less word) (address_same 0 (sum_by total_size (take place sources)) (get_or sources place []) word)
     | inr not_less ↦
         rw (slice_get_past scope.tables.now place (omega (arith, not_less, are.many)), address-past giver sources place word not_less) refl
   ]
@@ -157,7 +157,7 @@ module _ (scope : Scope) (sources : List (List Statement)) (are : AreTables scop
     here = get_or sources place []
 
     abbrev from : ℕ
-    from = sum_by total (take place sources)
+    from = sum_by total_size (take place sources)
 
     table_is : IsTable scope.own.now from here
     table_is = are.each place scope.own.now (omega (arith, within, are.many)) own
@@ -203,7 +203,7 @@ module _ (scope : Scope) (sources : List (List Statement)) (are : AreTables scop
             }
 
 -- where no label of a source stands twice
-pub alone_of : (tables : List Table) (sources : List (List Statement)) → AreTables tables sources → (i : ℕ) (table : Table) (source : List Statement) → i < length sources → table ≡ get_or tables i table → get_or sources i [] ≡ source → table.repeats ≡ false → AreAlone table.labels source (length source)
+pub alone_of : (tables : List LabelTable) (sources : List (List Statement)) → AreTables tables sources → (i : ℕ) (table : LabelTable) (source : List Statement) → i < length sources → table ≡ get_or tables i table → get_or sources i [] ≡ source → table.repeats ≡ false → AreAlone table.labels source (length source)
 alone_of tables sources are i table source within here is = rw is at (are.each i table (omega (arith, within, are.many)) here).alone
 
 -- the statements of the source at hand, by whatever they are known
@@ -271,8 +271,8 @@ module _ (statements : List Statement) where
   image_alone earlier (one ∷ rest) is =
       rw (same_piece, image_alone (earlier ++ one ∷ []) rest (same_more earlier one is), map-append) refl
     where
-      same_piece : piece_of (addresses_of statements) (has_label_of earlier one) (total earlier) (entry_of (addresses_of statements) earlier) (windows_of earlier) one.body
-          ≡ piece_of (addresses_of (map name_of statements)) (has_label_of (map name_of earlier) (name_of one)) (total (map name_of earlier)) (entry_of (addresses_of (map name_of statements)) (map name_of earlier)) (windows_of (map name_of earlier)) (name_of one).body
+      same_piece : piece_of (addresses_of statements) (has_label_of earlier one) (total_size earlier) (entry_of (addresses_of statements) earlier) (windows_of earlier) one.body
+          ≡ piece_of (addresses_of (map name_of statements)) (has_label_of (map name_of earlier) (name_of one)) (total_size (map name_of earlier)) (entry_of (addresses_of (map name_of statements)) (map name_of earlier)) (windows_of (map name_of earlier)) (name_of one).body
       same_piece =
           rw (← repeated_alone earlier one, ← is.entry, ← is.windows, total-named nobody 0 statements earlier, same_addresses)
           (piece_renamed (addresses_of (map name_of statements)) (meant nobody 0 statements) _ _ _ _ one.body)

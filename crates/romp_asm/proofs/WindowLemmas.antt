@@ -1,5 +1,5 @@
 -- The windows of a program that was assembled.
-use Rattle.romp_asm.proofs.Common.{AllByRecursion, fold, nat_tests, Statement, Body, encoding_of, Parts, assembled, entry_of, fitted, has_label_of, image_behind, is_entry, piece_before, piece_of, takes_window, windows_of, with_window, total, addresses_of, ◌≡◌, ℕ, zero, suc, ◌&&◌, ◌||◌, if◌then◌else◌, Bool, true, false, is_some, List, [], ◌∷◌, ◌++◌, length, replicate, slice_set, Option, None, Result, Ok, Err, refl, arith, append_assoc, append-nil, length-set}
+use Rattle.romp_asm.proofs.Common.{AllByRecursion, fold, nat_tests, Statement, Body, encoding_of, Parts, assembled, entry_of, fitted, has_label_of, image_behind, is_entry, piece_before, piece_of, takes_window, windows_of, with_window, total_size, addresses_of, ◌≡◌, ℕ, zero, suc, ◌&&◌, ◌||◌, if◌then◌else◌, Bool, true, false, is_some, List, [], ◌∷◌, ◌++◌, length, replicate, slice_set, Option, None, Result, Ok, Err, refl, arith, append_assoc, append-nil, length-set}
 use Rattle.flat_machine.specs.declared.machine.Window.{Window as Sight}
 use Rattle.romp_asm.proofs.MadeLemmas.{IsLegalPlace, windows_push}
 
@@ -31,8 +31,8 @@ legal_behind : (all before rest : List Statement) (image : List ℕ) → AllByRe
 unfolding image_behind
 legal_behind all before [] image legal e = rw (append-nil before) legal
 legal_behind all before (s ∷ rest) image legal e =
-    let parts = split s.line (piece_of (addresses_of all) (has_label_of before s) (total before) (entry_of (addresses_of all) before) (windows_of before) s.body) (image_behind all (before ++ s ∷ []) rest) image e in
-    let takes = takes_told (has_label_of before s || (is_entry s.body && is_some (entry_of (addresses_of all) before))) (total before) (windows_of before) s.body (encoding_of (addresses_of all) (total before) s.body) parts.0.0 parts.0.1 in
+    let parts = split s.line (piece_of (addresses_of all) (has_label_of before s) (total_size before) (entry_of (addresses_of all) before) (windows_of before) s.body) (image_behind all (before ++ s ∷ []) rest) image e in
+    let takes = takes_told (has_label_of before s || (is_entry s.body && is_some (entry_of (addresses_of all) before))) (total_size before) (windows_of before) s.body (encoding_of (addresses_of all) (total_size before) s.body) parts.0.0 parts.0.1 in
     let one : AllByRecursion IsLegalPlace (windows_of (before ++ s ∷ [])) = rw (windows_push before s) (legal_with (windows_of before) s.body takes legal) in
     rw append_assoc at (legal_behind all (before ++ s ∷ []) rest parts.1.0 one parts.1.1)
 

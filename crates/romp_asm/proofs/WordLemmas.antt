@@ -1,5 +1,5 @@
 -- A table after a word was put into it, and the place of a label with one statement more.
-use Rattle.romp_asm.proofs.Common.{◌≡◌, ℕ, Bool, cond, false, is_some, List, Option, Some, Place, Statement, is_labelled, noted, refl, ap, ◌∙◌, arith, bytes_eq, BTreeMap, found_in, nat_tests, bytes_eq-Decides, UpdatesBy, get_by, LabelKey, word_number}
+use Rattle.romp_asm.proofs.Common.{◌≡◌, ℕ, Bool, cond, false, is_some, List, Option, Some, Place, Statement, is_labelled, label_noted, refl, ap, ◌∙◌, arith, bytes_eq, BTreeMap, found_in, nat_tests, bytes_eq-Decides, UpdatesBy, get_by, LabelKey, word_number}
 use Rattle.std.proofs.lemmas.Map.Text.{is_eq-slice_cmp}
 use Rattle.std.specs.Cmp.Lexicographic.{slice_cmp}
 use Rattle.std.specs.Ordering.{is_eq, nat_cmp, ordering_then}
@@ -22,13 +22,13 @@ word_updates word key m n value number bytes updates other =
     ∙ ap (λ (test : Bool). cond test value (found_in m other)) (rw (number, bytes) (same_word word other))
 
 -- a label that had no place gets this one, and the others keep theirs
-pub noted_new : (before : List ℕ → Option Place) (label word : List ℕ) (place : Place) → false ≡ is_some (before label) → cond (bytes_eq label word) (Some place) (before word) ≡ noted (before word) (bytes_eq label word) place
+pub noted_new : (before : List ℕ → Option Place) (label word : List ℕ) (place : Place) → false ≡ is_some (before label) → cond (bytes_eq label word) (Some place) (before word) ≡ label_noted (before word) (bytes_eq label word) place
 noted_new before label word place none = grind (arith, nat_tests, bytes_eq-Decides, before)
 
 -- the same at a statement with this label
-pub noted_label : (before : List ℕ → Option Place) (statement : Statement) (label text word : List ℕ) (place : Place) → statement.label ≡ Some label → text ≡ label → false ≡ is_some (before text) → cond (bytes_eq text word) (Some place) (before word) ≡ noted (before word) (is_labelled word statement) place
+pub noted_label : (before : List ℕ → Option Place) (statement : Statement) (label text word : List ℕ) (place : Place) → statement.label ≡ Some label → text ≡ label → false ≡ is_some (before text) → cond (bytes_eq text word) (Some place) (before word) ≡ label_noted (before word) (is_labelled word statement) place
 noted_label before statement label text word place has same none = grind (arith, nat_tests, noted_new)
 
 -- a label that had a place gets it back, and the others keep theirs
-pub noted_back : (before : List ℕ → Option Place) (statement : Statement) (label text word : List ℕ) (place first : Place) → statement.label ≡ Some label → text ≡ label → before text ≡ Some first → cond (bytes_eq text word) (Some first) (cond (bytes_eq text word) (Some place) (before word)) ≡ noted (before word) (is_labelled word statement) place
+pub noted_back : (before : List ℕ → Option Place) (statement : Statement) (label text word : List ℕ) (place first : Place) → statement.label ≡ Some label → text ≡ label → before text ≡ Some first → cond (bytes_eq text word) (Some first) (cond (bytes_eq text word) (Some place) (before word)) ≡ label_noted (before word) (is_labelled word statement) place
 noted_back before statement label text word place first has same here = grind (arith, nat_tests, bytes_eq-Decides, before, here)

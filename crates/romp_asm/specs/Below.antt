@@ -11,5 +11,5 @@ pub use Rattle.asm_parse.specs.declared.statement.Body.TheVariants.{Data, Entry,
 pub use Rattle.asm_parse.specs.declared.statement.Expr.{Expr}
 pub use Rattle.asm_parse.specs.declared.statement.Operand.{Operand}
 pub use Rattle.asm_parse.specs.declared.statement.Statement.{Statement}
-pub use Rattle.romp_table.specs.Encode.{bits_of, bytes_in, encoded}
+pub use Rattle.romp_table.specs.Encode.{field_bits, inst_bytes, encoded}
 pub use Rattle.romp_table.specs.Legal.{IsLegal, IsSigned}

@@ -1,6 +1,6 @@
 -- The bytes of a statement.
 use Rattle.std.specs.Prelude.{ℕ, ℤ, ◌^◌, ◌-◌, ◌==◌, if◌then◌else◌, List, [], ◌∷◌, take, replicate, Option, Some, None, Result, Ok, Err}
-use Rattle.romp_asm.specs.Below.{bits_of, Body, Data, encoded, Entry, Export, form_of, Inst, Nothing, option_map, Space, Window}
+use Rattle.romp_asm.specs.Below.{field_bits, Body, Data, encoded, Entry, Export, form_of, Inst, Nothing, option_map, Space, Window}
 use Rattle.std.specs.Int.{to_be_bytes, w16, w32}
 use Rattle.romp_table.specs.declared.inst.Code.{Code}
 use Rattle.romp_asm.specs.Value.{is_between, knowns_of, value_of}
@@ -24,9 +24,9 @@ code_bytes code = take code.len code.bytes
 -- a value as so many bytes, the highest first: 4, 2 or 1, if they hold it with or without a sign
 abbrev pub data_bytes : ℕ → ℤ → Option (List ℕ)
 data_bytes count value =
-    if count == 4 then (if is_between (2 ^ 31) (2 ^ 32 - 1) value then Some (to_be_bytes w32 (bits_of 32 value)) else None)
-    else if count == 2 then (if is_between 32768 65535 value then Some (to_be_bytes w16 (bits_of 16 value)) else None)
-    else if count == 1 then (if is_between 128 255 value then Some (bits_of 8 value ∷ []) else None)
+    if count == 4 then (if is_between (2 ^ 31) (2 ^ 32 - 1) value then Some (to_be_bytes w32 (field_bits 32 value)) else None)
+    else if count == 2 then (if is_between 32768 65535 value then Some (to_be_bytes w16 (field_bits 16 value)) else None)
+    else if count == 1 then (if is_between 128 255 value then Some (field_bits 8 value ∷ []) else None)
     else None
 
 -- the bytes of a statement at an address, by the addresses of the labels: kind 6 for an unknown label, 7 for a value that is out of its range

@@ -8,13 +8,13 @@ use Rattle.romp_asm.specs.declared.exports.Exports.{Exports}
 use Rattle.romp_asm.specs.declared.exports.ExportFault.{ExportFault}
 
 -- a fault as its line and kind
-abbrev pub told_of : Option ExportFault → Option (ℕ × ℕ)
-told_of fault = option_map (λ fault. (fault.line, fault.kind)) fault
+abbrev pub export_told : Option ExportFault → Option (ℕ × ℕ)
+export_told fault = option_map (λ fault. (fault.line, fault.kind)) fault
 
 -- they are the exports of sources
 pub record AreExports (exports : Exports) (sources : List (List Statement)) : Type 0 where
   pub givers : (word : List ℕ) → found_in exports.givers word ≡ exporter sources word
-  pub fault : told_of exports.fault ≡ fault_behind [] sources
+  pub fault : export_told exports.fault ≡ fault_behind [] sources
 
 -- a set has the labels of statements
 abbrev pub HasLabels : {V : Type 0} → BTreeMap LabelKey V → List Statement → Type 0
@@ -36,4 +36,4 @@ export_fault line known again = if known then (if again then Some (line, 16) els
 -- the first fault of exports after that of a label by a line, by the labels of its source
 abbrev pub Faults : {V : Type 0} → BTreeMap LabelKey V → (line : ℕ) → (label : List ℕ) → (old new : Exports) → Type 0
 Faults labels line label old new =
-    told_of new.fault ≡ option_or (told_of old.fault) (export_fault line (is_some (found_in labels label)) (is_some (found_in old.givers label)))
+    export_told new.fault ≡ option_or (export_told old.fault) (export_fault line (is_some (found_in labels label)) (is_some (found_in old.givers label)))

@@ -1,6 +1,6 @@
 -- Values that the fields of an instruction hold.
 use Rattle.std.specs.Prelude.{ℕ, ℤ, pos, negsuc, suc, neg_ℤ, ◌*◌, ◌/◌, ◌%◌, nat_le, ◌==◌, ◌&&◌, if◌then◌else◌, Bool, Option, Some, None, option_and_then, ◌-ℤ◌}
-use Rattle.romp_table.specs.Encode.{bits_of}
+use Rattle.romp_table.specs.Encode.{field_bits}
 use Rattle.romp_asm.specs.Value.{is_between}
 
 -- a number from 0 to the greatest
@@ -14,7 +14,7 @@ number_field most n = if nat_le n most then Some n else None
 
 -- sixteen bits of a number from -32,768 to 32,767
 abbrev pub signed_field : ℤ → Option ℕ
-signed_field value = if is_between 32768 32767 value then Some (bits_of 16 value) else None
+signed_field value = if is_between 32768 32767 value then Some (field_bits 16 value) else None
 
 -- an even number
 abbrev pub is_even : ℤ → Bool

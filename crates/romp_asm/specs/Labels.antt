@@ -4,11 +4,11 @@ use Rattle.romp_asm.specs.Below.{BTreeMap, fold, get_by, option_map, option_map_
 use denote.Ref.{Bor}
 use Rattle.std.specs.Cmp.Lexicographic.{slice_cmp}
 use Rattle.std.specs.Ordering.{nat_cmp, ordering_then}
-use Rattle.romp_asm.specs.Size.{size_of, total}
+use Rattle.romp_asm.specs.Size.{size_of, total_size}
 use Rattle.romp_asm.specs.Value.{is_labelled, knowns_of}
 use Rattle.romp_asm.specs.declared.value.Place.{Place}
 use Rattle.romp_asm.specs.declared.value.Scope.{Scope}
-use Rattle.romp_asm.specs.declared.value.Table.{Table}
+use Rattle.romp_asm.specs.declared.value.LabelTable.{LabelTable}
 use Rattle.asm_parse.specs.declared.statement.Operand.{Operand}
 use Rattle.arrayvec.specs.ArrayVec.{ArrayVec}
 use Rattle.romp_asm.specs.declared.value.Known.{Known}
@@ -45,8 +45,8 @@ abbrev pub repeated_in : BTreeMap LabelKey Place → ℕ → Statement → Bool
 repeated_in labels index statement = option_map_or (λ label. stands_before index (found_in labels label)) statement.label false
 
 -- a statement's label, if it has one, is in no table yet
-abbrev pub IsNew : BTreeMap LabelKey Place → Statement → Type 0
-IsNew labels statement = IfSome statement.label (λ label. found_in labels label ≡ None)
+abbrev pub IsLabelNew : BTreeMap LabelKey Place → Statement → Type 0
+IsLabelNew labels statement = IfSome statement.label (λ label. found_in labels label ≡ None)
 
 -- the labels of so many of the first statements stand nowhere before them
 abbrev pub AreAlone : BTreeMap LabelKey Place → List Statement → ℕ → Type 0
@@ -54,9 +54,9 @@ AreAlone labels statements count =
     (index : ℕ) (statement : Statement) → index < count → statement ≡ slice_index_or statements index statement → repeated_in labels index statement ≡ false
 
 -- where a label stands after one statement more: where it stood, or else at that statement if it has the label
-abbrev pub noted : Option Place → Bool → Place → Option Place
-noted (Some before) labelled place = Some before
-noted None labelled place = if labelled then Some place else None
+abbrev pub label_noted : Option Place → Bool → Place → Option Place
+label_noted (Some before) labelled place = Some before
+label_noted None labelled place = if labelled then Some place else None
 
 -- the first statement that has a label, and its address, where the first of these statements has this number and stands at an address
 unfoldable pub place_from : ℕ → ℕ → List Statement → List ℕ → Option Place
@@ -66,28 +66,28 @@ place_from index at (statement ∷ statements) word =
     else place_from (index + 1) (at + size_of statement.body) statements word
 
 -- the first statement that has a label, and its address
-abbrev pub place_of : List Statement → List ℕ → Option Place
-place_of statements word = place_from 0 0 statements word
+abbrev pub label_place : List Statement → List ℕ → Option Place
+label_place statements word = place_from 0 0 statements word
 
 -- the table has the labels of statements, of which the first stands at an address
-pub record IsTable (table : Table) (start : ℕ) (statements : List Statement) : Type 0 where
+pub record IsTable (table : LabelTable) (start : ℕ) (statements : List Statement) : Type 0 where
   pub found : (word : List ℕ) → found_in table.labels word ≡ place_from 0 start statements word
   pub alone : table.repeats ≡ false → AreAlone table.labels statements (length statements)
-  pub end : table.end ≡ start + total statements
+  pub end : table.end ≡ start + total_size statements
 
 -- there is a table of each source, which stand one behind the other
-pub record AreTables (tables : List Table) (sources : List (List Statement)) : Type 0 where
+pub record AreTables (tables : List LabelTable) (sources : List (List Statement)) : Type 0 where
   pub many : length tables ≡ length sources
-  pub each : (source : ℕ) (table : Table) → source < length tables → table ≡ slice_index_or tables source table → IsTable table (sum_by total (take source sources)) (slice_index_or sources source [])
+  pub each : (source : ℕ) (table : LabelTable) → source < length tables → table ≡ slice_index_or tables source table → IsTable table (sum_by total_size (take source sources)) (slice_index_or sources source [])
 
 -- a table has the labels of statements
-pub record HasLabelsOf (statements : List Statement) (table : Table) : Type 0 where
-  pub found : (word : List ℕ) → found_in table.labels word ≡ place_of statements word
+pub record HasLabelsOf (statements : List Statement) (table : LabelTable) : Type 0 where
+  pub found : (word : List ℕ) → found_in table.labels word ≡ label_place statements word
   pub alone : table.repeats ≡ false → AreAlone table.labels statements (length statements)
 
 -- the label of a statement was noted, where it has one that stood nowhere
 abbrev pub NotesLabel : Statement → Place → (old new : BTreeMap LabelKey Place) → Type 0
-NotesLabel statement place old new = (word : List ℕ) → found_in new word ≡ noted (found_in old word) (is_labelled word statement) place
+NotesLabel statement place old new = (word : List ℕ) → found_in new word ≡ label_noted (found_in old word) (is_labelled word statement) place
 
 -- what operands are known to be, or the kind of their fault
 abbrev pub AreKnowns : Scope → List Operand → Result (ArrayVec Known) ℕ → Type 0

@@ -2,22 +2,22 @@
 use Rattle.std.specs.Prelude.{◌≡◌, ℕ, ℤ, ◌++◌, List, [], length, take, Bool, Option, slice_index_or, ◌<◌, Result, Ok, Err, None, false, replicate, unwrap_or, MatchResult}
 use Rattle.romp_asm.specs.Below.{Body, Statement, at_line}
 use Rattle.romp_asm.specs.Labels.{addresses_in, repeated_in, AreAlone}
-use Rattle.romp_asm.specs.Layout.{entry_of, has_label_of, image_behind, piece_of, windows_of, with_entry, with_window, assembled}
-use Rattle.romp_asm.specs.Size.{size_of, total}
+use Rattle.romp_asm.specs.Layout.{entry_of, has_label_of, image_behind, piece_of, windows_of, entry_after, with_window, assembled}
+use Rattle.romp_asm.specs.Size.{size_of, total_size}
 use Rattle.romp_asm.specs.Value.{addresses_of}
 use Rattle.flat_machine.specs.declared.machine.Window.{Window as Sight}
 use Rattle.romp_asm.specs.declared.output.Output.{Output}
 use Rattle.romp_asm.specs.declared.value.Scope.{Scope}
 use Rattle.flat_machine.specs.declared.machine.Program.{Program}
-use Rattle.asm_parse.specs.declared.fault.LineFault.{LineFault}
-use Rattle.asm_parse.specs.declared.fault.AsmFault.{AsmFault}
+use Rattle.asm_parse.specs.declared.asm_fault.LineFault.{LineFault}
+use Rattle.asm_parse.specs.declared.asm_fault.AsmFault.{AsmFault}
 use Rattle.asm_parse.specs.Answers.{IsFaultOf, IsTextFaultOf}
 
 -- the bytes of a statement were laid behind the others, and its entry address or window was noted
 pub record Lays (addresses : List ℕ → Option ℤ) (old new : Output) (body : Body) (bytes : List ℕ) : Type 0 where
   pub image : new.image.items ≡ old.image.items ++ bytes
   pub size : length bytes ≡ size_of body
-  pub entry : new.entry ≡ with_entry addresses old.entry body
+  pub entry : new.entry ≡ entry_after addresses old.entry body
   pub windows : new.windows ≡ with_window old.windows body
 
 -- what a reading of a statement gives was laid
@@ -33,7 +33,7 @@ image_joined image (Err fault) = Err fault
 -- of all statements some were laid, and the rest is to be laid behind them
 pub record LaidTo (all before rest : List Statement) (output : Output) : Type 0 where
   pub so_far : image_joined output.image.items (image_behind all before rest) ≡ image_behind all [] all
-  pub size : length output.image.items ≡ total before
+  pub size : length output.image.items ≡ total_size before
   pub entry : output.entry ≡ entry_of (addresses_of all) before
   pub windows : output.windows ≡ windows_of before
 
@@ -42,7 +42,7 @@ pub record IsReadAs (addresses : List ℕ → Option ℤ) (repeated : Bool) (sta
   pub line : statement.line ≡ named.line
   pub piece : (at : ℕ) (entry : Option ℕ) (windows : List (Option Sight)) → piece_of addresses repeated at entry windows statement.body ≡ piece_of (addresses_of all) (has_label_of before named) at entry windows named.body
   pub size : size_of statement.body ≡ size_of named.body
-  pub entry : (entry : Option ℕ) → with_entry addresses entry statement.body ≡ with_entry (addresses_of all) entry named.body
+  pub entry : (entry : Option ℕ) → entry_after addresses entry statement.body ≡ entry_after (addresses_of all) entry named.body
   pub windows : (windows : List (Option Sight)) → with_window windows statement.body ≡ with_window windows named.body
 
 -- statements of a source are others, one by one, which stand behind some
@@ -59,7 +59,7 @@ pub record IsNothingLaid (output : Output) : Type 0 where
 -- the entry address or window of a statement was noted, where it has one
 pub record IsNoted (scope : Scope) (body : Body) (old new : Output) : Type 0 where
   pub image : new.image ≡ old.image
-  pub entry : new.entry ≡ with_entry (addresses_in scope) old.entry body
+  pub entry : new.entry ≡ entry_after (addresses_in scope) old.entry body
   pub windows : new.windows ≡ with_window old.windows body
 
 -- a program is what was laid; without an entry address it begins at 0

@@ -3,7 +3,7 @@ use Rattle.std.specs.Prelude.{ℕ, ℤ, ◌+◌, ◌-◌, nat_lt, nat_le, ◌&&�
 use Rattle.romp_asm.specs.Below.{Body, Entry, option_map_or, Statement, Window}
 use Rattle.flat_machine.specs.declared.machine.Program.{Program}
 use Rattle.flat_machine.specs.declared.machine.Window.{Window as Sight}
-use Rattle.romp_asm.specs.Size.{size_of, total}
+use Rattle.romp_asm.specs.Size.{size_of, total_size}
 use Rattle.romp_asm.specs.Value.{address_of, addresses_of, value_of}
 use Rattle.romp_asm.specs.Field.{even_at_most}
 use Rattle.romp_asm.specs.Encoding.{encoding_of}
@@ -24,13 +24,13 @@ entry_by (Ok value) = even_at_most 16382 value
 entry_by (Err kind) = None
 
 -- the entry address after a statement
-abbrev pub with_entry : (List ℕ → Option ℤ) → Option ℕ → Body → Option ℕ
-with_entry addresses entry (Entry value) = entry_by (value_of addresses value)
-with_entry addresses entry _ = entry
+abbrev pub entry_after : (List ℕ → Option ℤ) → Option ℕ → Body → Option ℕ
+entry_after addresses entry (Entry value) = entry_by (value_of addresses value)
+entry_after addresses entry _ = entry
 
 -- the entry address that statements give, if one does
 abbrev pub entry_of : (List ℕ → Option ℤ) → List Statement → Option ℕ
-entry_of addresses statements = fold (λ entry statement. with_entry addresses entry statement.body) None statements
+entry_of addresses statements = fold (λ entry statement. entry_after addresses entry statement.body) None statements
 
 -- the windows after a statement
 abbrev pub with_window : List (Option Sight) → Body → List (Option Sight)
@@ -82,7 +82,7 @@ unfoldable pub image_behind : List Statement → List Statement → List Stateme
 image_behind all before [] = Ok []
 image_behind all before (statement ∷ statements) =
     piece_before statement.line
-    (piece_of (addresses_of all) (has_label_of before statement) (total before) (entry_of (addresses_of all) before) (windows_of before) statement.body)
+    (piece_of (addresses_of all) (has_label_of before statement) (total_size before) (entry_of (addresses_of all) before) (windows_of before) statement.body)
     (image_behind all (before ++ statement ∷ []) statements)
 
 -- the parts of a program with this image

@@ -1,11 +1,11 @@
 -- What linking answers.
 use Rattle.std.specs.Prelude.{◌≡◌, ℕ, ⊤, Result, Ok, Err}
 use Rattle.flat_machine.specs.declared.machine.Program.{Program}
-use Rattle.asm_parse.specs.declared.fault.AsmFault.{AsmFault}
-use Rattle.asm_parse.specs.declared.fault.AsmFault.TheVariants as asm
+use Rattle.asm_parse.specs.declared.asm_fault.AsmFault.{AsmFault}
+use Rattle.asm_parse.specs.declared.asm_fault.AsmFault.TheVariants as asm
 use Rattle.romp_asm.specs.Layout.{Parts, parts_of}
-use Rattle.romp_asm.specs.declared.fault.LinkFault.{LinkFault}
-use Rattle.romp_asm.specs.declared.fault.LinkFault.TheVariants.{Fault, Memory}
+use Rattle.romp_asm.specs.declared.link_fault.LinkFault.{LinkFault}
+use Rattle.romp_asm.specs.declared.link_fault.LinkFault.TheVariants.{Fault, Memory}
 
 -- the same line and kind
 abbrev pub link_fault : AsmFault → LinkFault

@@ -22,15 +22,15 @@ abbrev pub exporter : List (List Statement) → List ℕ → Option ℕ
 exporter sources word = position_from (λ source. export source word) 0 sources
 
 -- the kind of the fault of a line of a source, behind all lines before it: 15 for an export of a label that the source lacks, 16 for one of a label that an earlier line exports, in whichever source
-abbrev pub export_fault : (source before : List Statement) → Body → Option ℕ
-export_fault source before body =
+abbrev pub export_kind : (source before : List Statement) → Body → Option ℕ
+export_kind source before body =
     option_and_then (λ label. if defines source label then (if export before label then Some 16 else None) else Some 15) (exported body)
 
 -- the first such fault of statements of a source, with its line, behind all lines before them
 unfoldable pub fault_among : (source before statements : List Statement) → Option (ℕ × ℕ)
 fault_among source before [] = None
 fault_among source before (statement ∷ statements) =
-    option_or (option_map (λ kind. (statement.line, kind)) (export_fault source before statement.body)) (fault_among source (before ++ statement ∷ []) statements)
+    option_or (option_map (λ kind. (statement.line, kind)) (export_kind source before statement.body)) (fault_among source (before ++ statement ∷ []) statements)
 
 -- the first such fault of sources, behind all lines before them
 unfoldable pub fault_behind : List Statement → List (List Statement) → Option (ℕ × ℕ)

@@ -1,7 +1,7 @@
 -- How many bytes a statement makes.
 use Rattle.std.specs.Prelude.{◌≡◌, ℕ, List, sum_by, Option, IfSome}
 use Rattle.romp_table.specs.declared.inst.Inst as table
-use Rattle.romp_asm.specs.Below.{Body, bytes_in, Data, Entry, Export, form_of, Inst, IsLegal, Nothing, Space, Statement, Window}
+use Rattle.romp_asm.specs.Below.{Body, inst_bytes, Data, Entry, Export, form_of, Inst, IsLegal, Nothing, Space, Statement, Window}
 use Rattle.asm_parse.specs.declared.form.Form.{Form}
 
 -- the bytes of an instruction of this form
@@ -24,7 +24,7 @@ form_size Form.Call = 4
 
 -- an instruction has the bytes of its form
 abbrev pub HasSize : Form → table.Inst → Type 0
-HasSize form inst = bytes_in inst ≡ form_size form
+HasSize form inst = inst_bytes inst ≡ form_size form
 
 -- this instruction or none is made, and it is legal and has the bytes of its form
 pub record IsInstOf (form : Form) (made result : Option table.Inst) : Type 0 where
@@ -43,8 +43,8 @@ size_of (Entry value) = 0
 size_of (Export word) = 0
 
 -- the bytes of statements together
-abbrev pub total : List Statement → ℕ
-total statements = sum_by (λ statement. size_of statement.body) statements
+abbrev pub total_size : List Statement → ℕ
+total_size statements = sum_by (λ statement. size_of statement.body) statements
 
 -- two statements have the same mnemonic, and the same number where it is `.space`
 abbrev pub SameMnemonic : Body → Body → Type 0

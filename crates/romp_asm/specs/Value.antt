@@ -35,14 +35,14 @@ abbrev pub within_reach : ℤ → Result ℤ ℕ
 within_reach value = if is_between (2 ^ 63) (2 ^ 63 - 1) value then Ok value else Err 7
 
 -- an address and what is added to it; an unknown label is kind 6
-abbrev pub moved : ℤ → Option ℤ → Result ℤ ℕ
-moved more (Some address) = within_reach (address +ℤ more)
-moved more None = Err 6
+abbrev pub moved_by : ℤ → Option ℤ → Result ℤ ℕ
+moved_by more (Some address) = within_reach (address +ℤ more)
+moved_by more None = Err 6
 
 -- the value of an expression, by the addresses of the labels
 abbrev pub value_of : (List ℕ → Option ℤ) → Expr → Result ℤ ℕ
 value_of addresses (expr.Number number) = Ok number
-value_of addresses (expr.Label word more) = moved more (addresses word)
+value_of addresses (expr.Label word more) = moved_by more (addresses word)
 
 -- what is made of a value
 abbrev pub result_map : {A B : Type 0} → (A → B) → Result A ℕ → Result B ℕ

@@ -1,5 +1,5 @@
 ghost use Rattle.std.specs.Prelude.{◌≡◌, ◌≤◌, [], ◌∷◌, length, true, IfOk, IfSome};
-ghost use Rattle.romp_asm.specs.Below.{bits_of, bytes_in, encoded, form_of, IsLegal, option_map};
+ghost use Rattle.romp_asm.specs.Below.{field_bits, inst_bytes, encoded, form_of, IsLegal, option_map};
 ghost use Rattle.romp_asm.specs.Size.{form_size, size_of};
 ghost use Rattle.romp_asm.specs.Value.{is_between};
 ghost use Rattle.romp_asm.specs.Labels.{addresses_in};
@@ -56,7 +56,7 @@ fn inst_piece<'a>(
 fn code_piece(inst: &Inst) -> Piece
     requires { IsLegal inst.now }
     ensures value { piece_bytes result ≡ code_bytes (encoded inst.now) }
-    ensures size { length (piece_bytes result) ≡ bytes_in inst.now }
+    ensures size { length (piece_bytes result) ≡ inst_bytes inst.now }
 {
     let code = encode(inst);
     bytes_piece(&code.bytes[..usize::from(code.len)])
@@ -95,7 +95,7 @@ fn data_bytes(count: u8, value: i64) -> Option<Piece>
 /// The 32 bits of a value.
 fn word_of(value: i64) -> u32
     requires { is_between 2147483648 4294967295 value ≡ true }
-    ensures { result ≡ bits_of 32 value }
+    ensures { result ≡ field_bits 32 value }
 {
     if value < 0 {
         (value + 0x1_0000_0000) as u32
@@ -107,7 +107,7 @@ fn word_of(value: i64) -> u32
 /// The sixteen bits of a value.
 fn half_of(value: i64) -> u16
     requires { is_between 32768 65535 value ≡ true }
-    ensures { result ≡ bits_of 16 value }
+    ensures { result ≡ field_bits 16 value }
 {
     if value < 0 {
         (value + 0x1_0000) as u16
@@ -119,7 +119,7 @@ fn half_of(value: i64) -> u16
 /// The eight bits of a value.
 fn byte_of(value: i64) -> u8
     requires { is_between 128 255 value ≡ true }
-    ensures { result ≡ bits_of 8 value }
+    ensures { result ≡ field_bits 8 value }
 {
     if value < 0 {
         (value + 0x100) as u8

@@ -3,7 +3,7 @@ ghost use Rattle.romp_asm.specs.Below.{AllByRecursion, bytes_eq, option_map, opt
 ghost use Rattle.romp_asm.specs.Labels.{found_in};
 ghost use Rattle.asm_parse.specs.declared.statement.Statement.{Statement as Stated};
 ghost use Rattle.romp_asm.specs.Linked.{exported};
-ghost use Rattle.romp_asm.specs.Exported.{AreExports, HasLabels, told_of, Gives, Faults, export_fault, AddsExports};
+ghost use Rattle.romp_asm.specs.Exported.{AreExports, HasLabels, export_told, Gives, Faults, export_fault, AddsExports};
 
 use super::value::{Givers, LabelKey, label_key};
 use asm_parse::{Body, Part, Statements};
@@ -132,7 +132,7 @@ impl<'a> Exports<'a> {
 
 /// Why a line can't export a label, by whether its source has the label, and whether an earlier line exports it.
 fn fault_of(line: u32, known: bool, again: bool) -> Option<ExportFault>
-    ensures { told_of result ≡ export_fault line known again }
+    ensures { export_told result ≡ export_fault line known again }
 {
     if !known {
         Some(ExportFault {

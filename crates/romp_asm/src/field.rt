@@ -1,5 +1,5 @@
 ghost use Rattle.std.specs.Prelude.{◌≡◌, ℤ, pos, ◌+ℤ◌, ◌≤ℤ◌, ◌*◌, ◌%◌, ◌≤◌, ◌<◌, IfSome};
-ghost use Rattle.romp_table.specs.Encode.{bits_of};
+ghost use Rattle.romp_table.specs.Encode.{field_bits};
 ghost use Rattle.romp_asm.specs.Value.{is_between};
 ghost use Rattle.romp_asm.specs.Field.{at_most, even_at_most, half_of, is_even, number_field, relative, scales_in, short_field, signed_field};
 

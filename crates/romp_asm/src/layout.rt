@@ -1,5 +1,5 @@
 ghost use Rattle.std.specs.Prelude.{◌≡◌, false, ◌<◌, ◌≤◌, ◌^◌, List, ◌++◌, length, sum_by, MatchResult};
-ghost use Rattle.asm_parse.specs.Answers.{IsAnswer, IsTextFaultOf};
+ghost use Rattle.asm_parse.specs.Answers.{IsTextAnswer, IsTextFaultOf};
 ghost use Rattle.romp_asm.specs.Below.{at_line, stated};
 ghost use Rattle.romp_asm.specs.Labels.{addresses_in, found_in, repeated_in, stands_before, AreAlone};
 ghost use Rattle.romp_asm.specs.Laid.{AreReadAs, IsLaid, LaidTo, MayRepeat, LaysAll, MayRepeatAt, LaysOne};
@@ -26,7 +26,7 @@ use std::collections::BTreeMap;
 #[tactic(auto, unfolding(crate::specs::Source::source_of))]
 pub fn assemble_text(alloc: Global, text: &[u8]) -> Result<Program, AsmFault>
     requires { length text.now < 2 ^ 30 }
-    ensures { IsAnswer parts_of result (source_of text.now) }
+    ensures { IsTextAnswer parts_of result (source_of text.now) }
 {
     match parse(alloc, text) {
         Ok(statements) => assemble(alloc, statements.as_slice()),
@@ -45,7 +45,7 @@ pub fn assemble_text(alloc: Global, text: &[u8]) -> Result<Program, AsmFault>
 /// [`AsmFault::Memory`] where there is no memory.
 pub fn assemble(alloc: Global, statements: &[Statement]) -> Result<Program, AsmFault>
     requires { length statements.now ≤ 2 ^ 30 }
-    ensures { IsAnswer parts_of result (assembled statements.now) }
+    ensures { IsTextAnswer parts_of result (assembled statements.now) }
 {
     let table = labels_of(alloc, statements)?;
     let givers = BTreeMap::new(alloc);
@@ -71,7 +71,7 @@ pub fn assemble_sources<'a>(
     givers: &Givers<'a>,
 ) -> Result<Program, AsmFault>
     requires { sum_by (λ source. length source) sources.now ≤ 2 ^ 30 }
-    ensures { IsAnswer parts_of result (assembled (joined (found_in givers.now) sources.now)) }
+    ensures { IsTextAnswer parts_of result (assembled (joined (found_in givers.now) sources.now)) }
 {
     let kept = tables_of(alloc, sources)?;
     let tables = kept.as_slice();

@@ -4,20 +4,20 @@
 
 mod encoding;
 mod exports;
-mod fault;
 mod field;
 mod instruction;
-mod law;
 mod layout;
+mod link_fault;
 mod link_law;
 mod output;
 mod romp_link;
 mod size;
+mod size_law;
 mod value;
 
-pub use fault::LinkFault;
-pub use law::size_is_by_mnemonic;
 pub use layout::{assemble, assemble_sources, assemble_text};
+pub use link_fault::LinkFault;
 pub use link_law::a_source_without_exports_is_as_before;
 pub use romp_link::link;
+pub use size_law::size_is_by_mnemonic;
 pub use value::{Givers, LabelKey, label_key};

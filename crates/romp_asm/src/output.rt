@@ -2,7 +2,7 @@ ghost use Rattle.std.specs.Prelude.{◌≡◌, ◌≤◌, ◌<◌, ◌+◌, ◌%
 ghost use Rattle.asm_parse.specs.Answers.{IsFaultOf};
 ghost use Rattle.romp_asm.specs.Value.{value_of};
 ghost use Rattle.romp_asm.specs.Labels.{addresses_in};
-ghost use Rattle.romp_asm.specs.Layout.{entry_by, is_entry, is_free, parts_of, piece_of, takes_window, with_entry, with_window};
+ghost use Rattle.romp_asm.specs.Layout.{entry_by, is_entry, is_free, parts_of, piece_of, takes_window, entry_after, with_window};
 ghost use Rattle.romp_asm.specs.Piece.{piece_bytes};
 
 use super::encoding::{Piece, piece_of};

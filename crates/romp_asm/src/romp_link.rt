@@ -3,8 +3,8 @@ ghost use Rattle.romp_asm.specs.LinkAnswers.{IsLinkAnswer};
 ghost use Rattle.romp_asm.specs.Linked.{linked};
 
 use super::exports::exports_of;
-use super::fault::LinkFault;
 use super::layout::assemble_sources;
+use super::link_fault::LinkFault;
 use asm_parse::{AsmFault, Statements};
 use flat_machine::Program;
 use std::alloc::Global;

@@ -1,8 +1,8 @@
 ghost use Rattle.std.specs.Prelude.{◌≡◌, false, ◌+◌, ◌*◌, ◌≤◌, ◌<◌, ◌^◌, ◌+ℤ◌, sum_by, ℕ, List, length, IfOk, OnOk, MatchResult, Ok, Err};
 ghost use Rattle.romp_asm.specs.Below.{option_map, stated};
 ghost use Rattle.romp_asm.specs.Value.{is_labelled, known_of, knowns_of, least_kind, value_of, within_reach};
-ghost use Rattle.romp_asm.specs.Size.{total};
-ghost use Rattle.romp_asm.specs.Labels.{addresses_in, found_in, given_in, noted, place_of, AreAlone, AreTables, IsNew, IsTable, word_number, HasLabelsOf, NotesLabel, AreKnowns};
+ghost use Rattle.romp_asm.specs.Size.{total_size};
+ghost use Rattle.romp_asm.specs.Labels.{addresses_in, found_in, given_in, label_noted, label_place, AreAlone, AreTables, IsLabelNew, IsTable, word_number, HasLabelsOf, NotesLabel, AreKnowns};
 
 use super::field::{OUT_OF_REACH, UNKNOWN_LABEL};
 use super::size::size_of;
@@ -48,7 +48,7 @@ fn word_number(bytes: &[u8]) -> u64
 
 /// The labels of statements, whether one of them stands twice, and where the statements end.
 #[derive(Drop)]
-pub(crate) struct Table<'a> {
+pub(crate) struct LabelTable<'a> {
     pub labels: Labels<'a>,
     pub repeats: bool,
     pub end: u64,
@@ -57,8 +57,8 @@ pub(crate) struct Table<'a> {
 /// The labels that the statements of a source may name: its own, and those that other sources give.
 #[derive(Clone, Copy)]
 pub(crate) struct Scope<'s, 'g, 'a> {
-    pub own: &'s Table<'a>,
-    pub tables: &'s [Table<'a>],
+    pub own: &'s LabelTable<'a>,
+    pub tables: &'s [LabelTable<'a>],
     pub givers: &'g Givers<'a>,
 }
 
@@ -82,7 +82,10 @@ impl Default for Known {
 }
 
 /// The labels of statements.
-pub(crate) fn labels_of(alloc: Global, statements: &[Statement]) -> Result<Table<'_>, AllocError>
+pub(crate) fn labels_of(
+    alloc: Global,
+    statements: &[Statement],
+) -> Result<LabelTable<'_>, AllocError>
     requires { length statements.now ≤ 2 ^ 30 }
     ensures { IfOk result (HasLabelsOf statements.now) }
 {
@@ -98,7 +101,7 @@ pub(crate) fn labels_of(alloc: Global, statements: &[Statement]) -> Result<Table
         repeats |= again;
         address += u64::from(size_of(&statement.body));
     }
-    Ok(Table {
+    Ok(LabelTable {
         labels,
         repeats,
         end: address,
@@ -106,7 +109,10 @@ pub(crate) fn labels_of(alloc: Global, statements: &[Statement]) -> Result<Table
 }
 
 /// The tables of sources, which stand one after the other.
-pub(crate) fn tables_of(alloc: Global, sources: &[Statements]) -> Result<Vec<Table<'_>>, AllocError>
+pub(crate) fn tables_of(
+    alloc: Global,
+    sources: &[Statements],
+) -> Result<Vec<LabelTable<'_>>, AllocError>
     requires { sum_by (λ source. length source) sources.now ≤ 2 ^ 30 }
     ensures { IfOk result (λ tables. AreTables tables.items sources.now) }
 {
@@ -121,10 +127,14 @@ pub(crate) fn tables_of(alloc: Global, sources: &[Statements]) -> Result<Vec<Tab
 }
 
 /// The labels of statements that are kept, of which the first stands at an address.
-fn labels_kept(alloc: Global, statements: &Statements, start: u64) -> Result<Table<'_>, AllocError>
+fn labels_kept(
+    alloc: Global,
+    statements: &Statements,
+    start: u64,
+) -> Result<LabelTable<'_>, AllocError>
     requires { start + length statements.now * 2 ^ 32 ≤ 2 ^ 62 }
     ensures table { IfOk result (λ table. IsTable table start statements.now) }
-    ensures small { IfOk result (λ table. total statements.now ≤ length statements.now * 2 ^ 32) }
+    ensures small { IfOk result (λ table. total_size statements.now ≤ length statements.now * 2 ^ 32) }
 {
     let mut labels = BTreeMap::new(alloc);
     let mut repeats = false;
@@ -139,7 +149,7 @@ fn labels_kept(alloc: Global, statements: &Statements, start: u64) -> Result<Tab
         repeats |= again;
         address += u64::from(size_of(part.body));
     }
-    Ok(Table {
+    Ok(LabelTable {
         labels,
         repeats,
         end: address,
@@ -149,7 +159,7 @@ fn labels_kept(alloc: Global, statements: &Statements, start: u64) -> Result<Tab
 /// Notes the label of a statement, if it has one and no statement had it before. The answer is whether one had it.
 fn note<'a>(labels: &mut Labels<'a>, part: &Part<'a>, place: Place) -> Result<bool, AllocError>
     ensures noted { OnOk result (NotesLabel (stated part.now) place labels.old labels.new) }
-    ensures again { IfOk result (λ again. again ≡ false → IsNew labels.old (stated part.now)) }
+    ensures again { IfOk result (λ again. again ≡ false → IsLabelNew labels.old (stated part.now)) }
 {
     let Some(label) = part.label else {
         return Ok(false);

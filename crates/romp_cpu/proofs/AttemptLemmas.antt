@@ -1,5 +1,5 @@
 -- An attempt gives the row of every plain state that agrees, by the kinds of act.
-use Rattle.romp_cpu.proofs.Common.{option_map_or, arith, ap, sym, ◌∙◌, subst, leb-true, get_or-drop, length-append, get_or-map-range_with_len, length-map-range_with_len, big_number, overlaid, Layout, Act, Cs, Private, Shared, Refused, Plan, Does, Fails, Program, Attempt, Cpu, Access, Probe, bytes_from, halfword_of, access_to, Seen, seen_in, linked, undone, refused_by, unless_refused, tried, access_of, access_of_plan, place_of, bytes_in, ChecksAlike, ShowsSame, IsCpuOf, left_by, GivesAll, GivesBy, GivesOver, lines_of_access, TouchesAccess, GivesPlan, GivesEveryRow, nat_tests, ◌≡◌, refl, ℕ, ◌+◌, nat_le, nat_lt, cond, Bool, true, false, List, [], ◌∷◌, ◌++◌, length, slice_range, Option, Some, None}
+use Rattle.romp_cpu.proofs.Common.{option_map_or, arith, ap, sym, ◌∙◌, subst, leb-true, get_or-drop, length-append, get_or-map-range_with_len, length-map-range_with_len, big_number, overlaid, Layout, Act, Cs, Private, Shared, Refused, Plan, Does, Fails, Program, Attempt, Cpu, Access, Probe, bytes_from, halfword_of, access_to, Seen, seen_in, link_set, undone, refused_by, unless_refused, tried, access_of, access_of_plan, access_place, bytes_in, ChecksAlike, ShowsSame, IsCpuOf, stored_by, GivesAll, GivesBy, GivesOver, lines_of_access, TouchesAccess, GivesPlan, GivesEveryRow, nat_tests, ◌≡◌, refl, ℕ, ◌+◌, nat_le, nat_lt, cond, Bool, true, false, List, [], ◌∷◌, ◌++◌, length, slice_range, Option, Some, None}
 use mathlib.Core.Path.{fun_ext}
 use Rattle.lines.specs.Conflicts.{no_lines}
 use Rattle.flat_machine.specs.declared.machine.Located.{Located}
@@ -45,10 +45,10 @@ touches-plan p d outcome plan next went = ap (λ (o : Outcome). touched_by p d o
 module _ {S : Type 0} (plain : Plain) (cpu : Cpu) (seen : Seen S) (same : IsCpuOf plain cpu) where
   -- a state that is gone on to
   on-gives :
-      (link : Option (ℕ × ℕ)) (s : Plain) (plan : Plan) (state : S) → s.out ≡ plain.out → state ≡ left_by seen plan
+      (link : Option (ℕ × ℕ)) (s : Plain) (plan : Plan) (state : S) → s.out ≡ plain.out → state ≡ stored_by seen plan
       → GivesAll (with_link link (On s)) plan plain cpu seen (record {
         attempt = Attempt.Went;
-        cpu = record { regs = linked link s.regs; cs = s.cs; iar = s.iar; printed = cpu.printed };
+        cpu = record { regs = link_set link s.regs; cs = s.cs; iar = s.iar; printed = cpu.printed };
         state = state;
       })
   on-gives None s plan state out left =
@@ -73,7 +73,7 @@ module _ {S : Type 0} (plain : Plain) (cpu : Cpu) (seen : Seen S) (same : IsCpuO
       → GivesAll (with_link link (On (record (moved plain regs cs next) { regs = filled to sign part regs })))
       (Does regs cs (Act.Load address bytes to sign) next link) plain cpu seen (record {
         attempt = Attempt.Went;
-        cpu = record { regs = linked link (filled to sign (seen.shown address bytes) regs); cs = cs; iar = next; printed = cpu.printed };
+        cpu = record { regs = link_set link (filled to sign (seen.shown address bytes) regs); cs = cs; iar = next; printed = cpu.printed };
         state = seen.state;
       })
   loaded-gives link regs cs next address bytes to sign part shown = grind (arith, nat_tests)
@@ -86,7 +86,7 @@ module _ {S : Type 0} (plain : Plain) (cpu : Cpu) (seen : Seen S) (same : IsCpuO
       (Does regs cs (Act.Load address bytes to sign) next link) plain cpu seen
       (unless_refused seen cpu (refused_by (access_to address bytes false) probe) (record {
         attempt = Attempt.Went;
-        cpu = record { regs = linked link (filled to sign (seen.shown address bytes) regs); cs = cs; iar = next; printed = cpu.printed };
+        cpu = record { regs = link_set link (filled to sign (seen.shown address bytes) regs); cs = cs; iar = next; printed = cpu.printed };
         state = seen.state;
       }))
   load-gives link regs cs next address bytes to sign Probe.Permitted (Private at) alike shown =
@@ -107,7 +107,7 @@ module _ {S : Type 0} (plain : Plain) (cpu : Cpu) (seen : Seen S) (same : IsCpuO
       (Does regs cs (Act.Store address bytes from) next link) plain cpu seen
       (unless_refused seen cpu (refused_by (access_to address bytes true) probe) (record {
         attempt = Attempt.Went;
-        cpu = record { regs = linked link regs; cs = cs; iar = next; printed = cpu.printed };
+        cpu = record { regs = link_set link regs; cs = cs; iar = next; printed = cpu.printed };
         state = seen.stored address (stored_bytes regs bytes from);
       }))
   store-gives link regs cs next address bytes from Probe.Permitted (Private at) alike =
@@ -129,7 +129,7 @@ module _ {S : Type 0} (plain : Plain) (cpu : Cpu) (seen : Seen S) (same : IsCpuO
       (Does regs cs (Act.Print byte) next link) plain cpu seen
       (cond room (record {
         attempt = Attempt.Print byte;
-        cpu = record { regs = linked link regs; cs = cs; iar = next; printed = cpu.printed + 1 };
+        cpu = record { regs = link_set link regs; cs = cs; iar = next; printed = cpu.printed + 1 };
         state = seen.state;
       }) (undone seen cpu (Attempt.Check 5)))
   print-gives link regs cs next byte false = check-gives (with_link link (Check 5)) (Does regs cs (Act.Print byte) next link) 5 (check-linked link 5)
@@ -138,7 +138,7 @@ module _ {S : Type 0} (plain : Plain) (cpu : Cpu) (seen : Seen S) (same : IsCpuO
   print-gives (Some link) regs cs next byte true =
       ((record { regs = refl; cs = refl; iar = refl; printed = length-append plain.out (byte ∷ []) ∙ ap (λ n. n + 1) same.printed }, refl), refl)
 
-  module _ (p : Program) (d : Layout) (alike : (access : Access) → ChecksAlike (seen.answer access) (place_of p d access)) where
+  module _ (p : Program) (d : Layout) (alike : (access : Access) → ChecksAlike (seen.answer access) (access_place p d access)) where
     -- each kind of act
     act-gives :
         (act : Act) (regs : List ℕ) (cs : Cs) (next : ℕ) (link : Option (ℕ × ℕ))

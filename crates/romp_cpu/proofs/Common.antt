@@ -24,10 +24,10 @@ pub use Rattle.page_table.specs.declared.segment_regs.Check.{Check}
 pub use Rattle.page_table.specs.declared.segment_regs.SegmentRegister.{SegmentRegister}
 pub use Rattle.page_table.specs.declared.segment_regs.Virtual.{Virtual}
 pub use Rattle.romp_cpu.specs.Answers.{IsOutside, answer_in, answered, answered_at, bytes_of_range, unless_absent_at}
-pub use Rattle.romp_cpu.specs.Attempts.{ChecksAlike, GivesAll, GivesBy, GivesEveryRow, GivesOver, GivesPlan, IsCpuOf, ShowsSame, StoresAll, TouchesAccess, UndoesUnlessWent, access_of, access_of_plan, bytes_in, left_by, lines_of_access, place_of}
+pub use Rattle.romp_cpu.specs.Attempts.{ChecksAlike, GivesAll, GivesBy, GivesEveryRow, GivesOver, GivesPlan, IsCpuOf, ShowsSame, StoresAll, TouchesAccess, UndoesUnlessWent, access_of, access_of_plan, bytes_in, stored_by, lines_of_access, access_place}
 pub use Rattle.romp_cpu.specs.Segments.{register_of_window, registers_of_program}
 pub use Rattle.romp_cpu.specs.Shown.{access_to, bytes_from, halfword_of}
-pub use Rattle.romp_cpu.specs.Tried.{at, how_went, IsDoneIf, linked, refused_by, Seen, seen_in, Tried, tried, tried_act, undone, unless_refused}
+pub use Rattle.romp_cpu.specs.Tried.{at, how_went, IsDoneIf, link_set, refused_by, Seen, seen_in, Tried, tried, tried_act, undone, unless_refused}
 pub use Rattle.romp_cpu.specs.declared.cpu.Attempt.{Attempt}
 pub use Rattle.romp_cpu.specs.declared.cpu.Cpu.{Cpu}
 pub use Rattle.romp_cpu.specs.declared.storage.Access.{Access}

@@ -1,5 +1,5 @@
 -- A storage with a program's segment registers checks accesses as the plain machine does.
-use Rattle.romp_cpu.proofs.Common.{refl, ℕ, zero, suc, ◌+◌, ◌/◌, ◌%◌, ◌^◌, nat_le, ◌&&◌, not, cond, Bool, true, false, slice_index_or, Option, Some, None, option_map, Result, Ok, Err, get_or-map, PageSize, Layout, length_of, start_of, Check, Virtual, virtual_at, located_under, Private, Shared, Refused, Program, Window, in_segment, in_window, in_register, Access, unless_absent_at, answered_at, answered, ChecksAlike, place_of, register_of_window, registers_of_program, nat_tests, arith}
+use Rattle.romp_cpu.proofs.Common.{refl, ℕ, zero, suc, ◌+◌, ◌/◌, ◌%◌, ◌^◌, nat_le, ◌&&◌, not, cond, Bool, true, false, slice_index_or, Option, Some, None, option_map, Result, Ok, Err, get_or-map, PageSize, Layout, length_of, start_of, Check, Virtual, virtual_at, located_under, Private, Shared, Refused, Program, Window, in_segment, in_window, in_register, Access, unless_absent_at, answered_at, answered, ChecksAlike, access_place, register_of_window, registers_of_program, nat_tests, arith}
 
 -- an access that lies somewhere gets no check
 no-check : (absent refused : Option Virtual) (at : ℕ) → ChecksAlike (unless_absent_at absent refused) (Private at) × ChecksAlike (unless_absent_at absent refused) (Shared at)
@@ -59,6 +59,6 @@ module _ (page : PageSize) (is_in_frame : Virtual → Bool) (refuses : Virtual �
 -- whatever its frames and entries are
 pub checks-alike :
     (is_in_frame : Virtual → Bool) (refuses : Virtual → Bool → Bool) (access : Access) (p : Program) (d : Layout) (private : ℕ)
-    → ChecksAlike (answered (registers_of_program p d private) is_in_frame refuses access) (place_of p d access)
+    → ChecksAlike (answered (registers_of_program p d private) is_in_frame refuses access) (access_place p d access)
 checks-alike is_in_frame refuses access p d private =
     register-alike d.page is_in_frame refuses access p d private (access.address / 2 ^ 28) (access.address % 2 ^ 28) access.bytes access.store

@@ -1,7 +1,7 @@
 -- What stands under a program's segment registers, and which segments a legal directory has.
 use Rattle.romp_cpu.proofs.Common.{◌≡◌, refl, ℕ, suc, ◌+◌, ◌<◌, ◌≤◌, ◌^◌, cond, Bool, true, false, List, [], ◌∷◌, All, find, slice_index_or, Option, Some, None, option_map, arith, sym, ◌∙◌, get_or-map, nat_tests, PageSize, Layout, length_of, start_of, byte_count, SegmentRegister, Program, Window, register_of_window, registers_of_program}
 use Rattle.std.proofs.lemmas.List.Elements.{All-head, All-tail}
-use Rattle.lines.specs.Legal.{IsInRange, IsLegal}
+use Rattle.lines.specs.Legal.{IsInRange, AreSegmentsLegal}
 use Rattle.lines.specs.Segments.{page_bytes, bytes_of, is_named}
 use Rattle.lines.proofs.LegalLemmas.{legal_bytes}
 use Rattle.lines.proofs.WithinLemmas.{segment-within}
@@ -41,13 +41,13 @@ found-low identifier bytes page (segment ∷ rest) all found =
 
 -- a segment that a legal directory has is below 3,840
 pub named-low :
-    (segments : List (ℕ × ℕ)) (identifier bytes : ℕ) (page : PageSize) → IsLegal segments
+    (segments : List (ℕ × ℕ)) (identifier bytes : ℕ) (page : PageSize) → AreSegmentsLegal segments
     → length_of (record { page = page; segments = segments; fine = 0 }) identifier ≡ Some bytes → identifier < 3840
 named-low segments identifier bytes page legal found = found-low identifier bytes (page_bytes page) segments legal.in_range found
 
 -- and has at most 4 MiB
 pub bytes-low :
-    (segments : List (ℕ × ℕ)) (identifier bytes : ℕ) (page : PageSize) → IsLegal segments
+    (segments : List (ℕ × ℕ)) (identifier bytes : ℕ) (page : PageSize) → AreSegmentsLegal segments
     → length_of (record { page = page; segments = segments; fine = 0 }) identifier ≡ Some bytes → bytes ≤ 2 ^ 22
 bytes-low segments identifier bytes page legal found =
     let directory : Layout = record { page = page; segments = segments; fine = 0 } in

@@ -67,8 +67,8 @@ access_of_plan (Does regs cs act next link) = access_of act
 access_of_plan (Fails code) = None
 
 -- where an access lies
-abbrev pub place_of : Program → Layout → Access → Located
-place_of program directory access = located program directory access.address access.bytes access.store
+abbrev pub access_place : Program → Layout → Access → Located
+access_place program directory access = located program directory access.address access.bytes access.store
 
 -- the plain bytes of an access
 abbrev pub bytes_in : Plain → Located → ℕ → List ℕ
@@ -86,7 +86,7 @@ ChecksAlike _ _ = Unit {0}
 -- a range has the same bytes, if its access is permitted
 abbrev pub ShowsSame : {S : Type 0} → Program → Layout → Plain → Seen S → Access → Type 0
 ShowsSame program directory plain seen access =
-    seen.answer access ≡ Probe.Permitted → bytes_in plain (place_of program directory access) access.bytes ≡ seen.shown access.address access.bytes
+    seen.answer access ≡ Probe.Permitted → bytes_in plain (access_place program directory access) access.bytes ≡ seen.shown access.address access.bytes
 
 -- registers, status, address and number of printed bytes are a processor's
 pub record IsCpuOf (plain : Plain) (cpu : Cpu) : Type 0 where
@@ -100,7 +100,7 @@ pub record IsCpuOf (plain : Plain) (cpu : Cpu) : Type 0 where
 pub record Agrees {S : Type 0} (program : Program) (directory : Layout) (plain : Plain) (cpu : Cpu) (seen : Seen S) : Type 0 where
   pub same_cpu : IsCpuOf plain cpu
   pub private_shown : plain.private ≡ seen.shown 0 16384
-  pub same_checks : (access : Access) → ChecksAlike (seen.answer access) (place_of program directory access)
+  pub same_checks : (access : Access) → ChecksAlike (seen.answer access) (access_place program directory access)
   pub same_bytes : (access : Access) → access_of_plan (plan_at plain) ≡ Some access → ShowsSame program directory plain seen access
 
 -- an attempt gives a row's outcome: after one that went on the processor is that of the next state, and a printed byte is
@@ -118,13 +118,13 @@ StoresAll (Does regs cs (Act.Store address bytes from) next link) = (0 < bytes) 
 StoresAll _ = Unit {0}
 
 -- the state that the single store of a plan leaves, and the state before where the plan stores nothing
-abbrev pub left_by : {S : Type 0} → Seen S → Plan → S
-left_by seen (Does regs cs (Act.Store address bytes from) next link) = seen.stored address (stored_bytes regs bytes from)
-left_by seen _ = seen.state
+abbrev pub stored_by : {S : Type 0} → Seen S → Plan → S
+stored_by seen (Does regs cs (Act.Store address bytes from) next link) = seen.stored address (stored_bytes regs bytes from)
+stored_by seen _ = seen.state
 
 -- the storage's state after a row
 abbrev pub state_after : {S : Type 0} → Seen S → Plan → Outcome → S
-state_after seen plan (On next) = left_by seen plan
+state_after seen plan (On next) = stored_by seen plan
 state_after seen plan _ = seen.state
 
 -- the row's outcome and the storage's state after it
@@ -147,8 +147,8 @@ GivesOver (Some access) outcome plan plain cpu seen result = GivesBy (seen.answe
 abbrev pub lines_of_access : Program → Layout → Access → Lines
 lines_of_access program directory access =
     if access.store
-    then record { reads = []; writes = lines_at directory (place_of program directory access) access.bytes }
-    else record { reads = lines_at directory (place_of program directory access) access.bytes; writes = [] }
+    then record { reads = []; writes = lines_at directory (access_place program directory access) access.bytes }
+    else record { reads = lines_at directory (access_place program directory access) access.bytes; writes = [] }
 
 -- where a row goes on, it touches the lines of its access
 abbrev pub TouchesAccess : Program → Layout → Outcome → Plan → Type 0

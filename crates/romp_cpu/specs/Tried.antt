@@ -38,9 +38,9 @@ abbrev pub seen_in : {S : Type 0} → (S → ℕ → ℕ) → (S → Access → 
 seen_in byte_at answer stored state = record { state = state; shown = bytes_from (byte_at state); answer = answer state; stored = stored state }
 
 -- registers with a link, if there is one
-abbrev pub linked : Option (ℕ × ℕ) → List ℕ → List ℕ
-linked None registers = registers
-linked (Some link) registers = slice_set registers link.0 link.1
+abbrev pub link_set : Option (ℕ × ℕ) → List ℕ → List ℕ
+link_set None registers = registers
+link_set (Some link) registers = slice_set registers link.0 link.1
 
 -- an attempt that leaves processor and storage as they were
 abbrev pub undone : {S : Type 0} → Seen S → Cpu → Attempt → Tried S
@@ -60,24 +60,24 @@ unless_refused seen cpu (Some attempt) permitted = undone seen cpu attempt
 -- an act, with registers, status and address as after it
 abbrev pub tried_act : {S : Type 0} → Seen S → Cpu → Act → List ℕ → Cs → ℕ → Option (ℕ × ℕ) → Tried S
 tried_act seen cpu Act.Nothing regs cs next link =
-    record { attempt = Attempt.Went; cpu = record { regs = linked link regs; cs = cs; iar = next; printed = cpu.printed }; state = seen.state }
+    record { attempt = Attempt.Went; cpu = record { regs = link_set link regs; cs = cs; iar = next; printed = cpu.printed }; state = seen.state }
 tried_act seen cpu (Act.Load address bytes to sign) regs cs next link =
     unless_refused seen cpu (refused_by (access_to address bytes false) (seen.answer (access_to address bytes false)))
     (record {
       attempt = Attempt.Went;
-      cpu = record { regs = linked link (filled to sign (seen.shown address bytes) regs); cs = cs; iar = next; printed = cpu.printed };
+      cpu = record { regs = link_set link (filled to sign (seen.shown address bytes) regs); cs = cs; iar = next; printed = cpu.printed };
       state = seen.state;
     })
 tried_act seen cpu (Act.Store address bytes from) regs cs next link =
     unless_refused seen cpu (refused_by (access_to address bytes true) (seen.answer (access_to address bytes true)))
     (record {
       attempt = Attempt.Went;
-      cpu = record { regs = linked link regs; cs = cs; iar = next; printed = cpu.printed };
+      cpu = record { regs = link_set link regs; cs = cs; iar = next; printed = cpu.printed };
       state = seen.stored address (stored_bytes regs bytes from);
     })
 tried_act seen cpu (Act.Print byte) regs cs next link =
     if nat_lt cpu.printed 4096
-    then record { attempt = Attempt.Print byte; cpu = record { regs = linked link regs; cs = cs; iar = next; printed = cpu.printed + 1 }; state = seen.state }
+    then record { attempt = Attempt.Print byte; cpu = record { regs = link_set link regs; cs = cs; iar = next; printed = cpu.printed + 1 }; state = seen.state }
     else undone seen cpu (Attempt.Check 5)
 tried_act seen cpu Act.Commit regs cs next link = undone seen cpu Attempt.Commit
 tried_act seen cpu (Act.Check code) regs cs next link = undone seen cpu (Attempt.Check code)

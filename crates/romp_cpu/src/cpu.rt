@@ -4,7 +4,7 @@ ghost use Rattle.flat_machine.specs.Access.{FitsFrom, IsAccess};
 ghost use Rattle.flat_machine.specs.Pending.{planned, IsSoundPending, StaysIfPending};
 ghost use Rattle.flat_machine.specs.declared.machine.Act.{Act};
 ghost use Rattle.romp_cpu.specs.Shown.{halfword_of};
-ghost use Rattle.romp_cpu.specs.Tried.{at, how_went, linked, tried};
+ghost use Rattle.romp_cpu.specs.Tried.{at, how_went, link_set, tried};
 ghost use Rattle.romp_cpu.specs.Attempts.{left_as, plan_over, seen_of, DoesIf, GivesNext, TriesAct, TriesNext, UndoesUnlessWent, IsOfFewBytes, StoresAll};
 
 use super::storage::{Access, Fault, Probe, Storage};
@@ -324,7 +324,7 @@ impl Cpu {
     #[inline(always)]
     fn go_on(&mut self, next: u32, link: Option<(u8, u32)>) -> Attempt
         requires { ForSome link (λ written. written.0 < 16) }
-        ensures cpu { self.new ≡ record self.old { regs = linked link self.old.regs; iar = next } }
+        ensures cpu { self.new ≡ record self.old { regs = link_set link self.old.regs; iar = next } }
         ensures went { result ≡ Attempt.Went }
     {
         self.iar = next;

@@ -1,5 +1,5 @@
 -- Reading and writing instructions are inverse.
-use Rattle.romp_table.proofs.Common.{◌≡◌, ℕ, ◌/◌, ◌^◌, ◌<◌, false, cond, Option, Some, None, refl, sym, ap, ◌∙◌, subst, IsSomeAnd, IfNone, IsTrue, option_and_then, option_map_or, number_unit, instruction_by, row_numbered, has_uses, if_used, decoded, place_of, row_of, HasWidths, IsLegal, IsRowOf, op_of, format_of, number_of, first_of, second_of, encoded, BeginWith, Inst, Row, nat_tests, arith}
+use Rattle.romp_table.proofs.Common.{◌≡◌, ℕ, ◌/◌, ◌^◌, ◌<◌, false, cond, Option, Some, None, refl, sym, ap, ◌∙◌, subst, IsSomeAnd, IfNone, IsTrue, option_and_then, option_map_or, number_unit, instruction_by, row_numbered, has_uses, if_used, decoded, op_place, row_of, HasWidths, IsLegal, IsRowOf, op_of, format_of, op_number, first_of, second_of, encoded, BeginWith, Inst, Row, nat_tests, arith}
 use Rattle.romp_table.specs.declared.inst.Code.{Code}
 use Rattle.romp_table.proofs.TableLemmas.{number_fits, row_of_place, op_at_place, row_unique, row_found}
 use Rattle.romp_table.proofs.FieldLemmas.{numbered, read-written, written-read, first_told, read_alike, op_kept, format_kept}
@@ -16,18 +16,18 @@ if_true row inst uses = ap (λ test. cond test (Some inst) None) uses
 pub decoded_of : (inst : Inst) → IsLegal inst → (first second : ℕ) → first < 2 ^ 16 → BeginWith first second (encoded inst) → decoded first second ≡ Some inst
 decoded_of inst legal first second small begins =
     let (row, is_row, (same_format, uses)) = found_row inst (row_of (op_of inst)) legal.of_row in
-    let same_number : number_of (op_of inst) ≡ row.number = ap (λ o. option_map_or (λ row. row.number) o 0) is_row in
+    let same_number : op_number (op_of inst) ≡ row.number = ap (λ o. option_map_or (λ row. row.number) o 0) is_row in
     let stands = sym (row_of_place (op_of inst)) ∙ is_row in
     let has_number : first / number_unit row.format ≡ row.number =
     ap (λ format. first / number_unit format) same_format
     ∙ ap (λ n. n / number_unit (format_of inst)) (first_told inst first (first_of inst) second (second_of inst) begins)
-    ∙ numbered inst (number_of (op_of inst)) legal.widths
+    ∙ numbered inst (op_number (op_of inst)) legal.widths
     ∙ same_number in
     let is_op : row.op ≡ op_of inst = op_at_place (op_of inst) row stands in
-    ap (option_and_then (λ row. if_used row (instruction_by row.op row.format first second))) (row_unique first small (place_of (op_of inst)) row stands has_number)
+    ap (option_and_then (λ row. if_used row (instruction_by row.op row.format first second))) (row_unique first small (op_place (op_of inst)) row stands has_number)
     ∙ ap (if_used row) ((λ i. instruction_by (is_op i) (same_format i) first second)
     ∙ read_alike inst (op_of inst) first (first_of inst) second (second_of inst) begins
-    ∙ read-written inst (number_of (op_of inst)) legal.widths)
+    ∙ read-written inst (op_number (op_of inst)) legal.widths)
     ∙ if_true row inst uses
 
 -- halfwords that begin with the bytes of a legal instruction have a row, and their fields are as it uses them

@@ -8,11 +8,11 @@ pub use Rattle.std.specs.Option.{option_map, option_map_or}
 pub use Rattle.std.specs.Prelude.{IfNone, IfSome, IsSomeAnd, IsTrue, nat_lt, option_and_then, ◌-ℤ◌, Bool, List, [], is_none, is_some, map, negsuc, pos, slice_index, true, ◌*◌, ◌+◌, ◌==◌, ◌∷◌}
 pub use Rattle.romp_table.specs.Decode.{decoded, has_number, has_uses, if_used, instruction_by, nibble, number_unit, signed}
 unfoldable pub use Rattle.romp_table.specs.Decode.{row_numbered}
-pub use Rattle.romp_table.specs.Encode.{BeginWith, bits_of, bytes_in, bytes_of, encoded, first_of, first_with, number_of, second_of}
+pub use Rattle.romp_table.specs.Encode.{BeginWith, field_bits, inst_bytes, halfword_bytes, encoded, first_of, first_with, op_number, second_of}
 pub use Rattle.romp_table.specs.Legal.{HasWidths, IsLegal, IsRowOf, IsSigned, format_of, op_of}
 unfoldable pub use Rattle.romp_table.specs.Names.{mnemonic, op_named}
 pub use Rattle.romp_table.specs.Names.{slot_of}
-pub use Rattle.romp_table.specs.Rows.{is_row_at, place_of}
+pub use Rattle.romp_table.specs.Rows.{is_row_at, op_place}
 unfoldable pub use Rattle.romp_table.specs.Rows.{row_of}
 pub use Rattle.romp_table.specs.declared.inst.Inst.{Inst}
 pub use Rattle.romp_table.specs.declared.inst.Op.{Op}

@@ -7,13 +7,13 @@ use Rattle.romp_table.specs.declared.table.Row.{Row}
 use Rattle.romp_table.specs.declared.table.TheConstants.{TABLE}
 
 -- the place of an operation among all operations, from 0
-abbrev pub place_of : Op → ℕ
-place_of op = tag_of the_type op
+abbrev pub op_place : Op → ℕ
+op_place op = tag_of the_type op
 
 -- whether a row is the one of the operation at this place
 abbrev pub is_row_at : ℕ → Row → Bool
-is_row_at place row = place_of row.op == place
+is_row_at place row = op_place row.op == place
 
 -- the row of an operation
 unfoldable pub row_of : Op → Option Row
-row_of op = find (is_row_at (place_of op)) TABLE
+row_of op = find (is_row_at (op_place op)) TABLE

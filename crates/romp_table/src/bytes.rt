@@ -2,7 +2,7 @@ ghost use Rattle.std.specs.Prelude.{◌≡◌, ℕ, ◌+◌, ◌*◌, ◌/◌, �
 ghost use Rattle.romp_table.specs.Decode.{decoded, number_unit};
 ghost use Rattle.romp_table.specs.Rows.{row_of};
 ghost use Rattle.romp_table.specs.Legal.{HasWidths, IsLegal, IsSigned, format_of, op_of};
-ghost use Rattle.romp_table.specs.Encode.{BeginWith, bits_of, bytes_in, bytes_of, encoded, first_with, second_of};
+ghost use Rattle.romp_table.specs.Encode.{BeginWith, field_bits, inst_bytes, halfword_bytes, encoded, first_with, second_of};
 
 use super::inst::{Code, Inst, Op};
 use super::table::{Row, TABLE};
@@ -97,7 +97,7 @@ fn second_halfword(inst: &Inst) -> u16
 
 /// How many bytes an instruction has.
 fn count_of(inst: &Inst) -> u8
-    ensures { result ≡ bytes_in inst.now }
+    ensures { result ≡ inst_bytes inst.now }
 {
     match *inst {
         Inst::J { .. } | Inst::S { .. } | Inst::X { .. } | Inst::R { .. } => 2,
@@ -107,7 +107,7 @@ fn count_of(inst: &Inst) -> u8
 
 /// The bytes of two halfwords, the higher one of each first.
 fn bytes_from(first: u16, second: u16) -> [u8; 4]
-    ensures { result ≡ bytes_of first second }
+    ensures { result ≡ halfword_bytes first second }
 {
     [
         (first / 0x100) as u8,
@@ -119,7 +119,7 @@ fn bytes_from(first: u16, second: u16) -> [u8; 4]
 
 /// The eight bits of a signed number.
 fn byte_of(disp: i8) -> u16
-    ensures value { result ≡ bits_of 8 disp }
+    ensures value { result ≡ field_bits 8 disp }
     ensures small { result < 2 ^ 8 }
 {
     if disp < 0 {
@@ -132,7 +132,7 @@ fn byte_of(disp: i8) -> u16
 /// The lowest twenty bits of a signed number that they hold.
 fn twenty_bits_of(disp: i32) -> u32
     requires { IsSigned 20 disp }
-    ensures value { result ≡ bits_of 20 disp }
+    ensures value { result ≡ field_bits 20 disp }
     ensures small { result < 2 ^ 20 }
 {
     if disp < 0 {

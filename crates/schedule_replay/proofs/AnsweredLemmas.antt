@@ -1,5 +1,5 @@
 -- Events, one after another.
-use Rattle.schedule_replay.proofs.Common.{◌≡◌, ℕ, ◌+◌, ◌<◌, ◌≤◌, List, [], ◌∷◌, ◌++◌, length, get_or, take, drop, cond, sym, ◌∙◌, ap, subst, arith, false, Result, Ok, IsErr, take_all, take_more, take-append-drop, sum_by-append, Failed, Ghosts, FailsOnlyCounted, cause_since, FewerLater, elapses-trans, Event, HoldsStore, Line, Going, is_begin, is_turn, begins_in, turns_in, IsReady, Answered, GoesBy, GoesShut, Puts, nat_tests}
+use Rattle.schedule_replay.proofs.Common.{◌≡◌, ℕ, ◌+◌, ◌<◌, ◌≤◌, List, [], ◌∷◌, ◌++◌, length, get_or, take, drop, cond, sym, ◌∙◌, ap, subst, arith, false, Result, Ok, IsErr, take_all, take_more, take-append-drop, sum_by-append, Failed, Ghosts, FailsOnlyCounted, cause_since, FewerLater, elapses-trans, Event, HoldsStore, ReportLine, Going, is_begin, is_turn, begins_in, turns_in, MayBeAsked, Answered, GoesBy, GoesShut, Puts, nat_tests}
 use Rattle.desk.specs.declared.supervisor.Supervisor as desk
 use Rattle.schedule_replay.specs.declared.events.Going.TheVariants as going
 use Rattle.schedule_replay.proofs.PutsLemmas.{done}
@@ -24,16 +24,16 @@ module _ {D W : Type 0} (S : desk.Ghosts D) (G : Ghosts W) (fewer_later : FewerL
   answered_none desk w bytes = grind (arith, nat_tests)
 
   -- lines were put
-  pub answered_puts : {T : Type 0} (lines : List Line) (desk : D) (before after : W) (result : Result T Failed) → HoldsStore G (S.told desk).fixed.header before → Puts G lines before after result → Answered S G [] desk desk before after result
+  pub answered_puts : {T : Type 0} (lines : List ReportLine) (desk : D) (before after : W) (result : Result T Failed) → HoldsStore G (S.told desk).fixed.header before → Puts G lines before after result → Answered S G [] desk desk before after result
   answered_puts lines desk before after result bytes puts = grind (arith, nat_tests)
 
-  pub answered_then : {T U : Type 0} (events : List Event) (lines : List Line) (old new : D) (before between after : W) (value : T) (result : Result U Failed) → Answered S G events old new before between (Ok value) → Puts G lines between after result → Answered S G events old new before after result
+  pub answered_then : {T U : Type 0} (events : List Event) (lines : List ReportLine) (old new : D) (before between after : W) (value : T) (result : Result U Failed) → Answered S G events old new before between (Ok value) → Puts G lines between after result → Answered S G events old new before after result
   answered_then events lines old new before between after value result one puts =
       grind (arith, (elapses-trans G fewer_later before between after one.time puts.only.time), cause_since (G.put_faults before) (G.put_faults between) (G.put_faults after) value result one.cause puts.only.cause)
 
   module _ (events : List Event) (i : ℕ) (event : Event) (lt : i < length events) (old mid : D) (before between : W) where
     -- the next event may be asked
-    pub ready_next : IsReady S G events old before → Answered S G (take i events) old mid before between done → IsReady S G (get_or events i event ∷ []) mid between
+    pub ready_next : MayBeAsked S G events old before → Answered S G (take i events) old mid before between done → MayBeAsked S G (get_or events i event ∷ []) mid between
     ready_next ready so_far = grind (arith, (parted events i event lt), begins_split, turns_split)
 
     pub answered_more : {T : Type 0} (new : D) (after : W) (result : Result T Failed) → Answered S G (take i events) old mid before between done → Answered S G (get_or events i event ∷ []) mid new between after result → Answered S G (take (i + 1) events) old new before after result

@@ -12,9 +12,9 @@ pub use Rattle.desk.specs.Commits.{is_commit}
 pub use Rattle.desk.specs.Crash.{IsEitherOf, TookEvent, standing_of}
 pub use Rattle.desk.specs.Desk.{Desk}
 pub use Rattle.desk.specs.Holdings.{numbers}
-pub use Rattle.desk.specs.Instruction.{Counts, Doubt, Ending, Fine, Word}
+pub use Rattle.desk.specs.Instruction.{Counts, Doubt, Ending, Fine, DiskWord}
 pub use Rattle.desk.specs.Kept.{HoldsStore, IsDamage, Journal, JournalAfter, KeepsJournal, StillTold, WritesMore, journal_emptied, journal_in, journal_with, tells_fault, turn_fails, writes_due}
-pub use Rattle.desk.specs.Lines.{End, Left, Line, Lost, Open, line_text}
+pub use Rattle.desk.specs.ReportLines.{End, Left, ReportLine, Lost, Open, line_text}
 pub use Rattle.desk.specs.Report.{closing_lines, cycle_lines, ending_lines, event_lines, happening_lines, number_after, report, turn_lines}
 pub use Rattle.desk.specs.Run.{Happening, OpenBeforeEach, Step, faulted, run, step, CrashFailed, Crashed, Turned}
 pub use Rattle.desk.specs.Seen.{IsUnbroken, commits_seen}
@@ -35,7 +35,7 @@ pub use Rattle.outside.proofs.Runs.{asks_none, calls_none, calls_on, elapses-tra
 pub use Rattle.outside.specs.Bytes.{AreTold, Prints}
 pub use Rattle.outside.specs.Causes.{FailsOnlyCounted, Rose, RoseBy}
 pub use Rattle.outside.specs.Durable.{IsSure}
-pub use Rattle.outside.specs.Moments.{Elapses, Shows}
+pub use Rattle.outside.specs.Moments.{Elapses, ShowsPrefix}
 pub use Rattle.outside.specs.Runs.{CallsDisk, FewerLater, Leaves, OnlyAsks, OnlyPuts, held_of}
 pub use Rattle.outside.specs.declared.failed.Failed.{Failed}
 pub use Rattle.outside.specs.declared.world.Outside.{Ghosts}
@@ -49,13 +49,13 @@ pub use Rattle.store_format.specs.Bank.{Faulty, bank_of}
 pub use Rattle.store_format.specs.Header.{Header, total}
 pub use Rattle.store_format.specs.Stands.{chosen}
 unfoldable pub use Rattle.store_format.specs.Stands.{stands}
-pub use Rattle.schedule_replay.specs.Answered.{Answered, GoesBy, GoesShut, IsReady, ToldAfter, is_closed, way_of}
+pub use Rattle.schedule_replay.specs.Answered.{Answered, GoesBy, GoesShut, MayBeAsked, ToldAfter, is_closed, way_of}
 pub use Rattle.schedule_replay.specs.Asked.{IsAsked, begins_in, is_begin, is_turn, turns_in}
-pub use Rattle.schedule_replay.specs.Puts.{BeginsWith, Puts, PutsTimes, number_told, reopened_number, shown_of, stored_number, unended_told}
-pub use Rattle.schedule_replay.specs.Quiet.{RanQuietly, Tells, WentQuietly, is_rollback, last_by, out_after, tally_begun, tally_by, tally_stored, unput}
-pub use Rattle.schedule_replay.specs.Ran.{HasOpened, InDoubt, PrintsEarlier, Ran, WasStep, text_of, view_of}
+pub use Rattle.schedule_replay.specs.LinesPut.{BeginsWith, Puts, PutsTimes, end_number, reopened_number, shown_on, stored_number, unended_told}
+pub use Rattle.schedule_replay.specs.Quiet.{RanQuietly, TallyTells, WentQuietly, is_rollback, last_by, out_after, tally_begun, tally_by, tally_stored, unput}
+pub use Rattle.schedule_replay.specs.Ran.{HasOpened, InDoubt, PrintsEarlier, Ran, WasStep, run_text, view_by}
 pub use Rattle.schedule_replay.specs.RanTo.{RanTo}
-pub use Rattle.schedule_replay.specs.Runs.{Opening, Span, end_of, lines_of, opening, opening_of, report_lines_of, report_of, span}
+pub use Rattle.schedule_replay.specs.Runs.{Opening, Interval, run_end, lines_of, opening, opening_of, report_lines_of, report_of, span}
 pub use Rattle.schedule_replay.specs.Replays.{RanSome, Reports, WentBy, going_begun, going_by, going_if, is_damaged}
 pub use Rattle.schedule_replay.specs.declared.events.Going.{Going}
 pub use Rattle.std.proofs.lemmas.Bool.Decides.{nat_tests}

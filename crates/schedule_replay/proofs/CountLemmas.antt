@@ -1,23 +1,23 @@
 -- What lines tell of the journal and of faults of the disk, how many puts they are, and how many writes one event wants.
-use Rattle.schedule_replay.proofs.Common.{◌≡◌, ℕ, ◌+◌, List, [], ◌∷◌, ◌++◌, map, cond, refl, subst, arith, false, count_by, Result, IsErr, OnOk, flat_map, sum_by-append, Failed, Turn, TurnEnd, Stored, Reopened, turn_told, counts_told, stored_told, reopened_told, Counts, Ending, Journal, JournalAfter, KeepsJournal, journal_emptied, journal_with, tells_fault, turn_fails, stored_fails, reopened_fails, Line, cycle_lines, turn_lines, happening_lines, nat_tests, Happening, Turned, Crashed, CrashFailed, ◌*◌, ◌≤◌, Option, WritesMore, writes_due, commits_in, counted_quiet, lost_behind}
-use Rattle.desk.specs.Lines as line
+use Rattle.schedule_replay.proofs.Common.{◌≡◌, ℕ, ◌+◌, List, [], ◌∷◌, ◌++◌, map, cond, refl, subst, arith, false, count_by, Result, IsErr, OnOk, flat_map, sum_by-append, Failed, Turn, TurnEnd, Stored, Reopened, turn_told, counts_told, stored_told, reopened_told, Counts, Ending, Journal, JournalAfter, KeepsJournal, journal_emptied, journal_with, tells_fault, turn_fails, stored_fails, reopened_fails, ReportLine, cycle_lines, turn_lines, happening_lines, nat_tests, Happening, Turned, Crashed, CrashFailed, ◌*◌, ◌≤◌, Option, WritesMore, writes_due, commits_in, counted_quiet, lost_behind}
+use Rattle.desk.specs.ReportLines as line
 
 -- how many lines tell of a fault
-abbrev pub faults_in : List Line → ℕ
+abbrev pub faults_in : List ReportLine → ℕ
 faults_in lines = count_by tells_fault lines
 
-pub faults_on : (xs ys : List Line) → faults_in (xs ++ ys) ≡ faults_in xs + faults_in ys
+pub faults_on : (xs ys : List ReportLine) → faults_in (xs ++ ys) ≡ faults_in xs + faults_in ys
 faults_on xs ys = sum_by-append (λ line. cond (tells_fault line) 1 0) xs ys
 
 -- a list that is one in front of another has none of its own
-pub faults_front : (xs ys : List Line) → faults_in (xs ++ ys) ≡ 0 → faults_in xs ≡ 0
+pub faults_front : (xs ys : List ReportLine) → faults_in (xs ++ ys) ≡ 0 → faults_in xs ≡ 0
 faults_front xs ys none = let split = faults_on xs ys in omega (arith, split, none)
 
-pub faults_behind : (xs ys : List Line) → faults_in (xs ++ ys) ≡ 0 → faults_in ys ≡ 0
+pub faults_behind : (xs ys : List ReportLine) → faults_in (xs ++ ys) ≡ 0 → faults_in ys ≡ 0
 faults_behind xs ys none = let split = faults_on xs ys in omega (arith, split, none)
 
 -- what lines make of a journal, and then lines
-pub journal_on : (xs ys : List Line) (old mid new : Journal) → KeepsJournal xs old mid → KeepsJournal ys mid new → KeepsJournal (xs ++ ys) old new
+pub journal_on : (xs ys : List ReportLine) (old mid new : Journal) → KeepsJournal xs old mid → KeepsJournal ys mid new → KeepsJournal (xs ++ ys) old new
 journal_on [] ys old mid new first second = subst (λ (from : Journal). KeepsJournal ys from new) first second
 journal_on (line.Stored number ∷ xs) ys old mid new first second = journal_on xs ys (journal_emptied old) mid new first second
 journal_on (line.Commit activation number steps out ∷ xs) ys old mid new (added, first) second = (added, journal_on xs ys (journal_with old added) mid new first second)
@@ -38,7 +38,7 @@ lost_keep (activation ∷ lost) journal = lost_keep lost journal
 
 module _ (names : List (List ℕ)) (number : ℕ) where
   -- the lines of a turn
-  counted_keep : (cycles : List (List ℕ)) (ends : List Line) (old new : Journal) → KeepsJournal ends old new → KeepsJournal (flat_map cycle_lines cycles ++ ends) old new
+  counted_keep : (cycles : List (List ℕ)) (ends : List ReportLine) (old new : Journal) → KeepsJournal ends old new → KeepsJournal (flat_map cycle_lines cycles ++ ends) old new
   counted_keep cycles ends old new is = journal_on (flat_map cycle_lines cycles) ends old old new (cycles_keep cycles old) is
 
   ended_keep : (activation : ℕ) (counts : Counts) (ending : Ending) (old new : Journal) → JournalAfter (Turned activation counts ending) old new → KeepsJournal (turn_lines number activation counts ending) old new

@@ -1,5 +1,5 @@
 -- What one event keeps, how it goes on, and the numbers in its lines.
-use Rattle.schedule_replay.proofs.Common.{◌≡◌, ℕ, ◌+◌, ◌*◌, ◌≤◌, List, [], ◌∷◌, sym, ap, ◌∙◌, subst, arith, true, false, Bool, Option, Result, Ok, IfOk, Failed, Ghosts, IsSure, OnlyAsks, FewerLater, held_of, leaves_held, Program, Event, Begun, Turn, TurnEnd, Stored, Reopened, begun_told, turn_told, stored_told, reopened_told, turn_closes, turn_fails, stored_closes, stored_fails, reopened_closes, reopened_fails, HasNumbers, StoredNumber, IsReopened, TookEvent, Desk, numbers, Fine, CallsStore, FailsCounted, Fixed, StaysShut, HoldsStore, IsDamage, WritesMore, writes_due, Line, happening_lines, number_after, step, AreNames, Told, ToldAfterEnd, Answered, ToldAfter, GoesBy, Going, Puts, number_told, stored_number, reopened_number, WasStep, WentBy, view_of, going_if, going_begun, going_by, is_closed, is_damaged, nat_tests, result_and, opening, opening_of, span, AreLinesOf}
+use Rattle.schedule_replay.proofs.Common.{◌≡◌, ℕ, ◌+◌, ◌*◌, ◌≤◌, List, [], ◌∷◌, sym, ap, ◌∙◌, subst, arith, true, false, Bool, Option, Result, Ok, IfOk, Failed, Ghosts, IsSure, OnlyAsks, FewerLater, held_of, leaves_held, Program, Event, Begun, Turn, TurnEnd, Stored, Reopened, begun_told, turn_told, stored_told, reopened_told, turn_closes, turn_fails, stored_closes, stored_fails, reopened_closes, reopened_fails, HasNumbers, StoredNumber, IsReopened, TookEvent, Desk, numbers, Fine, CallsStore, FailsCounted, Fixed, StaysShut, HoldsStore, IsDamage, WritesMore, writes_due, ReportLine, happening_lines, number_after, step, AreNames, Told, ToldAfterEnd, Answered, ToldAfter, GoesBy, Going, Puts, end_number, stored_number, reopened_number, WasStep, WentBy, view_by, going_if, going_begun, going_by, is_closed, is_damaged, nat_tests, result_and, opening, opening_of, span, AreLinesOf}
 use Rattle.desk.specs.declared.event.Event.TheVariants as event
 use Rattle.desk.specs.declared.answers.Begun.TheVariants as begun
 use Rattle.desk.specs.declared.answers.TurnEnd.TheVariants as end
@@ -20,7 +20,7 @@ turn_shut ends closes calm = grind arith
 pub stored_shut : (answer : Stored) → stored_closes answer ≡ true → stored_fails answer ≡ false → answer ≡ stored.Shut
 stored_shut answer closes calm = grind arith
 
-lines_numbered : (names : List (List ℕ)) (activation : ℕ) (answer : Turn) (ends : TurnEnd) (printed : List ℕ) (number : ℕ) → HasNumbers ends activation number → happening_lines names (number_told ends) (turn_told activation (record answer { end = ends }) printed) ≡ happening_lines names number (turn_told activation (record answer { end = ends }) printed)
+lines_numbered : (names : List (List ℕ)) (activation : ℕ) (answer : Turn) (ends : TurnEnd) (printed : List ℕ) (number : ℕ) → HasNumbers ends activation number → happening_lines names (end_number ends) (turn_told activation (record answer { end = ends }) printed) ≡ happening_lines names number (turn_told activation (record answer { end = ends }) printed)
 lines_numbered names activation answer ends printed number has = grind arith
 
 stored_numbered : (names : List (List ℕ)) (answer : Stored) (number : ℕ) → StoredNumber answer number → happening_lines names (stored_number answer) (stored_told answer) ≡ happening_lines names number (stored_told answer)
@@ -63,7 +63,7 @@ module _ {D W : Type 0} (S : desk.Ghosts D) (G : Ghosts W) where
   pub store_asked : (old new : D) (before after : W) → (S.told new).fixed ≡ (S.told old).fixed → OnlyAsks G before after → HoldsStore G (S.told old).fixed.header before → CallsStore G (S.told new).fixed.header before after
   store_asked old new before after fixed asks bytes = grind (arith, nat_tests)
 
-  answered_event : (fewer_later : FewerLater G) {T : Type 0} (events : List Event) (lines : List Line) (old new : D) (before between after : W) (result : Result T Failed) → ToldAfter events (S.told old) (S.told new)
+  answered_event : (fewer_later : FewerLater G) {T : Type 0} (events : List Event) (lines : List ReportLine) (old new : D) (before between after : W) (result : Result T Failed) → ToldAfter events (S.told old) (S.told new)
       → CallsStore G (S.told new).fixed.header before between → Puts G lines between after result → Answered S G events old new before after result
   answered_event fewer_later events lines old new before between after result tells store puts = grind (arith, nat_tests)
 
@@ -89,19 +89,19 @@ module _ {D W : Type 0} (S : desk.Ghosts D) (G : Ghosts W) where
 
     module _ (number : ℕ) (start : Desk) (new : D) (before after : W) where
       pub turn_step : (activation limit : ℕ) (answer : Turn) (printed : List ℕ)
-          → (did : TookEvent G (record { programs = programs; number = number; event = event.Turn activation limit; told = turn_told activation answer printed }) (view_of S new) start before after) × HasNumbers answer.end activation (number_after number did.next)
+          → (did : TookEvent G (record { programs = programs; number = number; event = event.Turn activation limit; told = turn_told activation answer printed }) (view_by S new) start before after) × HasNumbers answer.end activation (number_after number did.next)
           → WritesMore (G.writes before) (G.writes after) (writes_due answer.end) → FailsCounted (turn_fails answer.end) (G.disk_faults before) (G.disk_faults after)
-          → WasStep S G (opening names programs number start) (event.Turn activation limit) (happening_lines names (number_told answer.end) (turn_told activation answer printed)) new (span before after)
+          → WasStep S G (opening names programs number start) (event.Turn activation limit) (happening_lines names (end_number answer.end) (turn_told activation answer printed)) new (span before after)
       turn_step activation limit answer printed (did, has) writes failed = record {
         told = turn_told activation answer printed;
         did = did;
         lines_are = lines_numbered names activation answer answer.end printed (number_after number did.next) has;
-        writes = writes_fewer (G.writes before) (G.writes after) (writes_due answer.end) _ (turn_writes names (number_told answer.end) activation answer answer.end printed) writes;
-        calm = λ none. subst (λ (fails : Bool). FailsCounted fails (G.disk_faults before) (G.disk_faults after)) (turn_calm names (number_told answer.end) activation answer answer.end printed none) failed;
+        writes = writes_fewer (G.writes before) (G.writes after) (writes_due answer.end) _ (turn_writes names (end_number answer.end) activation answer answer.end printed) writes;
+        calm = λ none. subst (λ (fails : Bool). FailsCounted fails (G.disk_faults before) (G.disk_faults after)) (turn_calm names (end_number answer.end) activation answer answer.end printed none) failed;
       }
 
       pub checkpoint_step : (answer : Stored)
-          → (did : TookEvent G (record { programs = programs; number = number; event = event.Checkpoint; told = stored_told answer }) (view_of S new) start before after) × StoredNumber answer (number_after number did.next)
+          → (did : TookEvent G (record { programs = programs; number = number; event = event.Checkpoint; told = stored_told answer }) (view_by S new) start before after) × StoredNumber answer (number_after number did.next)
           → WritesMore (G.writes before) (G.writes after) 0 → FailsCounted (stored_fails answer) (G.disk_faults before) (G.disk_faults after)
           → WasStep S G (opening names programs number start) event.Checkpoint (happening_lines names (stored_number answer) (stored_told answer)) new (span before after)
       checkpoint_step answer (did, has) writes failed = record {
@@ -113,7 +113,7 @@ module _ {D W : Type 0} (S : desk.Ghosts D) (G : Ghosts W) where
       }
 
       pub crash_step : (lost : List ℕ) (answer : Reopened) → lost ≡ numbers start
-          → (did : TookEvent G (record { programs = programs; number = number; event = event.Crash; told = reopened_told (numbers start) answer }) (view_of S new) start before after) × IsReopened answer (number_after number did.next)
+          → (did : TookEvent G (record { programs = programs; number = number; event = event.Crash; told = reopened_told (numbers start) answer }) (view_by S new) start before after) × IsReopened answer (number_after number did.next)
           → OnlyAsks G before after → FailsCounted (reopened_fails answer) (G.disk_faults before) (G.disk_faults after)
           → WasStep S G (opening names programs number start) event.Crash (happening_lines names (reopened_number answer) (reopened_told lost answer)) new (span before after)
       crash_step lost answer are (did, has) asks failed = record {
@@ -126,7 +126,7 @@ module _ {D W : Type 0} (S : desk.Ghosts D) (G : Ghosts W) where
 
   -- an event whose step is told was asked, and its lines were put: it goes on as the answer says
   pub went_event : (fewer_later : FewerLater G) (printed_now : PrintedNow G) (law : ShownTold S)
-      {T : Type 0} (names : List (List ℕ)) (are : AreNames names) (event one : Event) (lines : List Line) (old new : D) (before between after : W) (put : Result T Failed) (way told : Going) (result : Result Going Failed)
+      {T : Type 0} (names : List (List ℕ)) (are : AreNames names) (event one : Event) (lines : List ReportLine) (old new : D) (before between after : W) (put : Result T Failed) (way told : Going) (result : Result Going Failed)
       → event ≡ one → way ≡ told → result ≡ result_and put (Ok way) → Puts G lines between after put
       → ToldAfter (one ∷ []) (S.told old) (S.told new) → CallsStore G (S.told new).fixed.header before between
       → ((S.told old).closed ≡ true → told ≡ going.Closed) → (S.told new).closed ≡ is_closed told → (G.disk_faults after ≡ G.disk_faults between → G.held after ≡ G.held between → GoesBy S G old new before after told)

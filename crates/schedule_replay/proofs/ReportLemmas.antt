@@ -1,19 +1,19 @@
 -- The report of a run, from its parts; and lines of answers, one after another, whatever stands on the disk.
-use Rattle.schedule_replay.proofs.Common.{◌≡◌, ℕ, List, [], ◌∷◌, ◌++◌, length, map, refl, sym, ap, ◌∙◌, subst, inl, inr, arith, append-nil, IsSome, Option, true, false, Result, Ok, IsErr, IfOk, OnOk, flat_map, Failed, Ghosts, Prints, IsSure, Elapses, Leaves, held_of, prints_same, prints_well, prints_on, prints_stop, leaves_held, elapses-trans, leaves_on, Program, Event, Desk, Word, Line, Open, Left, line_text, number_after, closing_lines, report, event_lines, run, faulted, commits_seen, IsLeft, IsStage, ArePlain, plain_on, commits_in, commits_on, seen_all, AreNames, Grew, run_grew, run_plain, report_parts, lines_end, left_none, left_more, stage_more, stage_none, Going, Puts, PutsTimes, BeginsWith, shown_of, Ran, HasOpened, PrintsEarlier, text_of, RanSome, Reports, Fixed, is_closed, nat_tests, opening, opening_of, span, ◌+◌, ◌<◌, get_or, take, append_assoc, take_more, flat_map-append, Bool, prints_broken, Begun, Turn, TurnEnd, Stored, Reopened, begun_told, turn_told, stored_told, reopened_told, Happening, happening_lines, CallsStore, Header, EntersOrder}
+use Rattle.schedule_replay.proofs.Common.{◌≡◌, ℕ, List, [], ◌∷◌, ◌++◌, length, map, refl, sym, ap, ◌∙◌, subst, inl, inr, arith, append-nil, IsSome, Option, true, false, Result, Ok, IsErr, IfOk, OnOk, flat_map, Failed, Ghosts, Prints, IsSure, Elapses, Leaves, held_of, prints_same, prints_well, prints_on, prints_stop, leaves_held, elapses-trans, leaves_on, Program, Event, Desk, DiskWord, ReportLine, Open, Left, line_text, number_after, closing_lines, report, event_lines, run, faulted, commits_seen, IsLeft, IsStage, ArePlain, plain_on, commits_in, commits_on, seen_all, AreNames, Grew, run_grew, run_plain, report_parts, lines_end, left_none, left_more, stage_more, stage_none, Going, Puts, PutsTimes, BeginsWith, shown_on, Ran, HasOpened, PrintsEarlier, run_text, RanSome, Reports, Fixed, is_closed, nat_tests, opening, opening_of, span, ◌+◌, ◌<◌, get_or, take, append_assoc, take_more, flat_map-append, Bool, prints_broken, Begun, Turn, TurnEnd, Stored, Reopened, begun_told, turn_told, stored_told, reopened_told, Happening, happening_lines, CallsStore, Header, EntersOrder}
 use Rattle.std.proofs.lemmas.Result.{IfOk-weaker}
 use Rattle.schedule_replay.proofs.PutsLemmas.{times_on, shown_after, begins_none, begins_same, begins_on, begins_behind, done, printed_none}
 use Rattle.schedule_replay.proofs.WentLemmas.{Laws, sure_puts, image_is}
 use Rattle.schedule_replay.proofs.RanLemmas.{leaves_join, seen_behind, seen_each}
 use Rattle.schedule_replay.proofs.RanToLemmas.{to_later, to_none, to_since}
 use Rattle.std.proofs.lemmas.Bool.{both_ways}
-use Rattle.schedule_replay.specs.Told.{IsToldOf, Enters, AreLinesOf, AreOfEnd, Tells, TellsBy, TellsSome, TellsReport}
+use Rattle.schedule_replay.specs.Told.{IsToldOf, Enters, AreLinesOf, AreOfEnd, TellsLines, TellsBy, TellsSome, TellsReport}
 use Rattle.schedule_replay.specs.declared.events.Replayed.{Replayed}
 use Rattle.desk.specs.declared.supervisor.Supervisor as desk
 use Rattle.schedule_replay.specs.declared.events.Going.TheVariants as going
 use Rattle.schedule_replay.specs.declared.events.Replayed.TheVariants as replayed
 use Rattle.schedule_replay.specs.Answered.{way_of}
 use Rattle.schedule_replay.specs.Replays.{is_damaged, Replays}
-use Rattle.schedule_replay.specs.Runs.{Opening, Span}
+use Rattle.schedule_replay.specs.Runs.{Opening, Interval}
 
 -- nothing is said of success where it failed
 times_failed : {T : Type 0} (P : Type 0) (result : Result T Failed) → IsErr result → OnOk result P
@@ -48,7 +48,7 @@ closing_quiet : (number : ℕ) (desk : Desk) → commits_seen (flat_map line_tex
 closing_quiet number desk = let closing = closing_plain number [] desk in seen_all (closing_lines number [] desk) closing.0 ∙ closing.1
 
 -- what is printed of earlier events, behind the first line and with more behind it
-earlier_behind : {T : Type 0} (old between middle new : Option (List ℕ)) (first : List ℕ) (text : List (Event × Word) → List ℕ) (taken : List (Event × Word)) (value : T)
+earlier_behind : {T : Type 0} (old between middle new : Option (List ℕ)) (first : List ℕ) (text : List (Event × DiskWord) → List ℕ) (taken : List (Event × DiskWord)) (value : T)
     → Prints old between first (Ok value) → PrintsEarlier between middle text taken → BeginsWith middle new [] → PrintsEarlier old new (λ front. first ++ text front) taken
 earlier_behind old between middle new first text taken value one earlier more =
     grind (arith, nat_tests, begins_behind, begins_on)
@@ -64,27 +64,27 @@ module _ {D W : Type 0} (S : desk.Ghosts D) (G : Ghosts W) (laws : Laws S G) (na
 
   module _ (programs : List Program) (number : ℕ) where
     -- what a crash left is left of a longer text
-    longer : (start : Desk) (taken : List (Event × Word)) (first second printed image seen : List ℕ) → IsLeft programs number start taken first printed image seen → IsLeft programs number start taken (first ++ second) printed image seen
+    longer : (start : Desk) (taken : List (Event × DiskWord)) (first second printed image seen : List ℕ) → IsLeft programs number start taken first printed image seen → IsLeft programs number start taken (first ++ second) printed image seen
     longer start taken first second printed image seen left =
-        subst (λ (these : List (Event × Word)). IsLeft programs number start these (first ++ second) printed image seen) (append-nil taken)
+        subst (λ (these : List (Event × DiskWord)). IsLeft programs number start these (first ++ second) printed image seen) (append-nil taken)
         (left_more programs number start taken [] first second printed image seen [] (sym (append-nil (run programs taken start).order)) left)
 
     -- what a crash left while lines without a commit were put, from bytes that were sure and shown
-    left_puts : {T : Type 0} (lines : List Line) (desk : Desk) (new : D) (before after : W) (result : Result T Failed) → (S.told new).fixed.opened ≡ number → commits_seen (flat_map line_text lines) ≡ 0 → IsSure G before → S.shows new (held_of G before) desk → Puts G lines before after result → IsSome (G.printed before)
-        → Leaves G (IsLeft programs number desk [] (flat_map line_text lines) (shown_of G before)) before after
+    left_puts : {T : Type 0} (lines : List ReportLine) (desk : Desk) (new : D) (before after : W) (result : Result T Failed) → (S.told new).fixed.opened ≡ number → commits_seen (flat_map line_text lines) ≡ 0 → IsSure G before → S.shows new (held_of G before) desk → Puts G lines before after result → IsSome (G.printed before)
+        → Leaves G (IsLeft programs number desk [] (flat_map line_text lines) (shown_on G before)) before after
     left_puts lines desk new before after result opened none sure shows puts told image seen left = grind (arith, nat_tests, image_is, left_none)
 
     -- and the images of it, without a word on the screen
-    images_puts : {T : Type 0} (lines : List Line) (desk : Desk) (new : D) (before after : W) (result : Result T Failed) → (S.told new).fixed.opened ≡ number → IsSure G before → S.shows new (held_of G before) desk → Puts G lines before after result → Leaves G (λ image seen. IsStage programs number desk [] image) before after
+    images_puts : {T : Type 0} (lines : List ReportLine) (desk : Desk) (new : D) (before after : W) (result : Result T Failed) → (S.told new).fixed.opened ≡ number → IsSure G before → S.shows new (held_of G before) desk → Puts G lines before after result → Leaves G (λ image seen. IsStage programs number desk [] image) before after
     images_puts lines desk new before after result opened sure shows puts image seen left =
         grind (arith, nat_tests, stage_none, held_of, leaves_held)
 
     -- what was put behind the first line
-    record Tail {T : Type 0} (start : Desk) (taken : List (Event × Word)) (rest : List Event) (between after : W) (later : Result T Failed) : Type 0 where
-      pub printed : Prints (G.printed between) (G.printed after) (text_of (opening names programs number start) taken ++ flat_map line_text (closing_lines number rest (run programs taken start))) later
+    record Tail {T : Type 0} (start : Desk) (taken : List (Event × DiskWord)) (rest : List Event) (between after : W) (later : Result T Failed) : Type 0 where
+      pub printed : Prints (G.printed between) (G.printed after) (run_text (opening names programs number start) taken ++ flat_map line_text (closing_lines number rest (run programs taken start))) later
       pub times : PutsTimes G (length (event_lines names programs number taken start ++ closing_lines number rest (run programs taken start))) between after later
       pub images : Leaves G (λ image seen. IsStage programs number start taken image) between after
-      pub left : IsSome (G.printed between) → Leaves G (IsLeft programs number start taken (text_of (opening names programs number start) taken ++ flat_map line_text (closing_lines number rest (run programs taken start))) (shown_of G between)) between after
+      pub left : IsSome (G.printed between) → Leaves G (IsLeft programs number start taken (run_text (opening names programs number start) taken ++ flat_map line_text (closing_lines number rest (run programs taken start))) (shown_on G between)) between after
       pub time : Elapses G.moment G.left_since between after
 
     -- a put failed among the lines of the events
@@ -95,14 +95,14 @@ module _ {D W : Type 0} (S : desk.Ghosts D) (G : Ghosts W) (laws : Laws S G) (na
     -- the desk is closed
     tail_shut : {T U : Type 0} (front rest : List Event) (start : Desk) (new : D) (between after : W) (value : T) (other : U) (ran : Ran S G (opening names programs number start) front new (span between after) (Ok value)) → (S.told new).closed ≡ true → Tail start ran.taken rest between after (Ok other)
     tail_shut {T} {U} front rest start new between after value other ran shut =
-        let put = text_of (opening names programs number start) ran.taken in
+        let put = run_text (opening names programs number start) ran.taken in
         let ends = flat_map line_text (closing_lines number rest (run programs ran.taken start)) in
         let none : ends ≡ [] = ap (flat_map line_text) (no_closing number rest (run programs ran.taken start) (sym ran.to.closes ∙ shut)) in
         record {
           printed = subst (λ (bytes : List ℕ). Prints {T = U} (G.printed between) (G.printed after) bytes (Ok other)) (sym (append-nil put) ∙ ap (λ (tail : List ℕ). put ++ tail) (sym none)) (prints_well (G.printed between) (G.printed after) put value other ran.printed);
-          times = subst (λ (lines : List Line). PutsTimes {T = U} G (length lines) between after (Ok other)) (sym (append-nil (event_lines names programs number ran.taken start)) ∙ ap (λ (tail : List Line). event_lines names programs number ran.taken start ++ tail) (sym (no_closing number rest (run programs ran.taken start) (sym ran.to.closes ∙ shut)))) ran.times;
+          times = subst (λ (lines : List ReportLine). PutsTimes {T = U} G (length lines) between after (Ok other)) (sym (append-nil (event_lines names programs number ran.taken start)) ∙ ap (λ (tail : List ReportLine). event_lines names programs number ran.taken start ++ tail) (sym (no_closing number rest (run programs ran.taken start) (sym ran.to.closes ∙ shut)))) ran.times;
           images = ran.images;
-          left = λ told image seen left. longer start ran.taken put ends (shown_of G between) image seen (ran.left told image seen left);
+          left = λ told image seen left. longer start ran.taken put ends (shown_on G between) image seen (ran.left told image seen left);
           time = ran.time;
         }
 
@@ -110,7 +110,7 @@ module _ {D W : Type 0} (S : desk.Ghosts D) (G : Ghosts W) (laws : Laws S G) (na
     tail_put : {T U : Type 0} (front rest : List Event) (start : Desk) (new : D) (between middle after : W) (value : T) (later : Result U Failed) → (S.told new).fixed.opened ≡ number → (S.told new).closed ≡ false → rest ≡ [] → (ran : Ran S G (opening names programs number start) front new (span between middle) (Ok value))
         → ((held : List ℕ) (desk : Desk) → S.shows new held desk → Puts G (closing_lines number [] desk) middle after later) → Tail start ran.taken rest between after later
     tail_put front rest start new between middle after value later opened still none ran closing =
-        let last = run programs ran.taken start in let put = text_of (opening names programs number start) ran.taken in
+        let last = run programs ran.taken start in let put = run_text (opening names programs number start) ran.taken in
         let ends : List ℕ = flat_map line_text (closing_lines number [] last) in
         let kept = ran.to.still (sym ran.to.closes ∙ still) in
         let puts : Puts G (closing_lines number [] last) middle after later = closing (held_of G middle) last kept.1 in
@@ -120,8 +120,8 @@ module _ {D W : Type 0} (S : desk.Ghosts D) (G : Ghosts W) (laws : Laws S G) (na
           images = λ image seen left. grind (arith, ran.images image, puts.images image seen, puts.only.time.nothing_else (G.moment between) image seen ran.time.later left, laws.later middle (G.moment between) (G.moment middle) image);
           left = λ told.
               let shown = shown_after (G.printed between) (G.printed middle) put value told ran.printed in
-              subst (λ (these : List (Event × Word)). Leaves G (IsLeft programs number start these (put ++ ends) (shown_of G between)) between after) (append-nil ran.taken)
-              (leaves_join G laws.later programs number (shown_of G between) (shown_of G middle) start ran.taken [] put ends between middle after [] ran.time puts.only.time shown.1 ran.each_open
+              subst (λ (these : List (Event × DiskWord)). Leaves G (IsLeft programs number start these (put ++ ends) (shown_on G between)) between after) (append-nil ran.taken)
+              (leaves_join G laws.later programs number (shown_on G between) (shown_on G middle) start ran.taken [] put ends between middle after [] ran.time puts.only.time shown.1 ran.each_open
               (seen_each names are programs number ran.taken start ran.each_open (sym ran.to.closes ∙ still))
               (seen_behind (event_lines names programs number ran.taken start) (run_plain programs names number are ran.taken start))
               (sym (append-nil last.order)) (ran.left told)
@@ -136,7 +136,7 @@ module _ {D W : Type 0} (S : desk.Ghosts D) (G : Ghosts W) (laws : Laws S G) (na
       reports_none events result later one two was_open opened puts =
           let sure = sure_puts S G laws.later laws.printed (Open number ∷ []) before between result puts opened.sure in
           let first : List ℕ = flat_map line_text (Open number ∷ []) in
-          let more : List ℕ = text_of (opening names programs number start) [] ++ flat_map line_text (closing_lines number events start) in
+          let more : List ℕ = run_text (opening names programs number start) [] ++ flat_map line_text (closing_lines number events start) in
           let whole : first ++ more ≡ report names programs number [] events start = ap (λ (front : List ℕ). front ++ more) (open_text number) ∙ sym (report_parts programs names number [] events start) in
           record {
             taken = [];
@@ -150,8 +150,8 @@ module _ {D W : Type 0} (S : desk.Ghosts D) (G : Ghosts W) (laws : Laws S G) (na
             all = if_ok_broken later (λ going. is_closed going ≡ false → events ≡ []) two;
             images = images_puts (Open number ∷ []) start old before between result opened_at opened.sure opened.shows puts;
             left = λ told image seen left.
-                subst (λ (text : List ℕ). IsLeft programs number start [] text (shown_of G before) image seen) whole
-                (longer start [] first more (shown_of G before) image seen (left_puts (Open number ∷ []) start old before between result opened_at (seen_all (Open number ∷ []) (tt, tt)) opened.sure opened.shows puts told image seen left));
+                subst (λ (text : List ℕ). IsLeft programs number start [] text (shown_on G before) image seen) whole
+                (longer start [] first more (shown_on G before) image seen (left_puts (Open number ∷ []) start old before between result opened_at (seen_all (Open number ∷ []) (tt, tt)) opened.sure opened.shows puts told image seen left));
             doubt = λ shut. absurd (let no = sym (laws.shown old (held_of G before) start opened.shows).open_desk ∙ shut in let never : ⊥ = cc in never);
           }
 
@@ -162,7 +162,7 @@ module _ {D W : Type 0} (S : desk.Ghosts D) (G : Ghosts W) (laws : Laws S G) (na
           → IfOk later (λ going. (S.told new).closed ≡ is_closed going) → IfOk later (λ going. is_closed going ≡ false → rest ≡ []) → Reports S G (opening names programs number start) events new (span before after) is_closed later
       reports_of events front rest new middle after value result later opened puts whole ran tail sure images disk same_held same_writes more closed all =
           let first : List ℕ = flat_map line_text (Open number ∷ []) in
-          let put = text_of (opening names programs number start) ran.taken in
+          let put = run_text (opening names programs number start) ran.taken in
           let ends = flat_map line_text (closing_lines number rest (run programs ran.taken start)) in
           let parts : first ++ (put ++ ends) ≡ report names programs number ran.taken rest start = ap (λ (front : List ℕ). front ++ (put ++ ends)) (open_text number) ∙ sym (report_parts programs names number ran.taken rest start) in
           let grew : Grew programs names number ran.taken start = run_grew programs names number ran.taken start ran.each_open in
@@ -177,7 +177,7 @@ module _ {D W : Type 0} (S : desk.Ghosts D) (G : Ghosts W) (laws : Laws S G) (na
             printed = prints_same (G.printed before) (G.printed after) (first ++ (put ++ ends)) (report names programs number ran.taken rest start) later parts
                 (prints_on (G.printed before) (G.printed between) (G.printed after) first (put ++ ends) value later puts.printed tail.printed);
             times = grind (arith, lines_end programs names number ran.taken rest start, times_on G before between after (Open number ∷ []) (event_lines names programs number ran.taken start ++ closing_lines number rest (run programs ran.taken start)) value later puts.printed puts.times tail.times);
-            earlier = earlier_behind (G.printed before) (G.printed between) (G.printed middle) (G.printed after) (line_text (Open number)) (λ front. text_of (opening names programs number start) front) ran.taken value
+            earlier = earlier_behind (G.printed before) (G.printed between) (G.printed middle) (G.printed after) (line_text (Open number)) (λ front. run_text (opening names programs number start) front) ran.taken value
                 (prints_same (G.printed before) (G.printed between) first (line_text (Open number)) (Ok value) (open_text number) puts.printed) ran.earlier more;
             closed = closed;
             all = all;
@@ -186,8 +186,8 @@ module _ {D W : Type 0} (S : desk.Ghosts D) (G : Ghosts W) (laws : Laws S G) (na
                 (λ image seen left. stage_more programs number start [] ran.taken image grew.more grew.order_is (images_puts (Open number ∷ []) start old before between (Ok value) opened_at opened.sure opened.shows puts image seen left)) tail.images;
             left = λ told.
                 let shown = shown_after (G.printed before) (G.printed between) first value told puts.printed in
-                subst (λ (text : List ℕ). Leaves G (IsLeft programs number start ran.taken text (shown_of G before)) before after) parts
-                (leaves_join G laws.later programs number (shown_of G before) (shown_of G between) start [] ran.taken first (put ++ ends) before between after grew.more puts.only.time tail.time shown.1 tt
+                subst (λ (text : List ℕ). Leaves G (IsLeft programs number start ran.taken text (shown_on G before)) before after) parts
+                (leaves_join G laws.later programs number (shown_on G before) (shown_on G between) start [] ran.taken first (put ++ ends) before between after grew.more puts.only.time tail.time shown.1 tt
                 (let none = seen_all (Open number ∷ []) (tt, tt) in omega (arith, none))
                 (seen_behind (Open number ∷ []) (tt, tt)) grew.order_is
                 (left_puts (Open number ∷ []) start old before between (Ok value) opened_at (seen_all (Open number ∷ []) (tt, tt)) opened.sure opened.shows puts told)
@@ -271,11 +271,11 @@ pub enters_reopened : (lost : List ℕ) (answer : Reopened) (old new : List (ℕ
 enters_reopened lost answer old new same = grind (arith, same)
 
 -- the lines of events, and then of events
-lines_on : (names : List (List ℕ)) (first second : List Event) (one two : List Line) (a b c : List (ℕ × ℕ)) → AreLinesOf names first one a b → AreLinesOf names second two b c → AreLinesOf names (first ++ second) (one ++ two) a c
+lines_on : (names : List (List ℕ)) (first second : List Event) (one two : List ReportLine) (a b c : List (ℕ × ℕ)) → AreLinesOf names first one a b → AreLinesOf names second two b c → AreLinesOf names (first ++ second) (one ++ two) a c
 lines_on names [] second one two a b c are later =
-    subst (λ (lines : List Line). AreLinesOf names second (lines ++ two) a c) (sym are.0) (subst (λ (order : List (ℕ × ℕ)). AreLinesOf names second two order c) are.1 later)
+    subst (λ (lines : List ReportLine). AreLinesOf names second (lines ++ two) a c) (sym are.0) (subst (λ (order : List (ℕ × ℕ)). AreLinesOf names second two order c) are.1 later)
 lines_on names (event ∷ first) second one two a b c (told, number, more, between, is, enters, lines, rest) later =
-    (told, number, more ++ two, between, is, enters, ap (λ (these : List Line). these ++ two) lines ∙ append_assoc (happening_lines names number told) more two, lines_on names first second more two between b c rest later)
+    (told, number, more ++ two, between, is, enters, ap (λ (these : List ReportLine). these ++ two) lines ∙ append_assoc (happening_lines names number told) more two, lines_on names first second more two between b c rest later)
 
 pub lines_one : (names : List (List ℕ)) (event : Event) (told : Happening) (number : ℕ) (old new : List (ℕ × ℕ)) → IsToldOf event told → Enters told old new → AreLinesOf names (event ∷ []) (happening_lines names number told) old new
 lines_one names event told number old new is enters = (told, number, [], new, is, enters, sym (append-nil (happening_lines names number told)), (refl, refl))
@@ -286,17 +286,17 @@ times_since : {W T : Type 0} (G : Ghosts W) (count : ℕ) (before between after 
 times_since G count before between after same puts result times = grind (arith, same, puts)
 
 module _ {W : Type 0} (G : Ghosts W) (names : List (List ℕ)) where
-  pub tells_none : {T : Type 0} (order : List (ℕ × ℕ)) (w : W) (value : T) → Tells G names [] order order w w (Ok value)
+  pub tells_none : {T : Type 0} (order : List (ℕ × ℕ)) (w : W) (value : T) → TellsLines G names [] order order w w (Ok value)
   tells_none order w value = grind (arith, nat_tests, printed_none G)
 
   -- lines of one event were put, once it was answered
-  pub tells_event : {T : Type 0} (event : Event) (lines : List Line) (old new : List (ℕ × ℕ)) (header : Header) (before between after : W) (result : Result T Failed)
-      → AreLinesOf names (event ∷ []) lines old new → CallsStore G header before between → Puts G lines between after result → Tells G names (event ∷ []) old new before after result
+  pub tells_event : {T : Type 0} (event : Event) (lines : List ReportLine) (old new : List (ℕ × ℕ)) (header : Header) (before between after : W) (result : Result T Failed)
+      → AreLinesOf names (event ∷ []) lines old new → CallsStore G header before between → Puts G lines between after result → TellsLines G names (event ∷ []) old new before after result
   tells_event event lines old new header before between after result are store puts =
       grind (arith, nat_tests, times_since)
 
   pub tells_on : {T U : Type 0} (first second : List Event) (a b c : List (ℕ × ℕ)) (old mid new : W) (value : T) (result : Result U Failed)
-      → Tells G names first a b old mid (Ok value) → Tells G names second b c mid new result → Tells G names (first ++ second) a c old new result
+      → TellsLines G names first a b old mid (Ok value) → TellsLines G names second b c mid new result → TellsLines G names (first ++ second) a c old new result
   tells_on first second a b c old mid new value result one two = record {
     lines = one.lines ++ two.lines;
     are = lines_on names first second one.lines two.lines a b c one.are two.are;
@@ -307,15 +307,15 @@ module _ {W : Type 0} (G : Ghosts W) (names : List (List ℕ)) where
 
   -- one more of some events
   pub tells_more : {T : Type 0} (events : List Event) (i : ℕ) (event : Event) → i < length events → (a b c : List (ℕ × ℕ)) (old mid new : W) (result : Result T Failed)
-      → Tells G names (take i events) a b old mid done → Tells G names (get_or events i event ∷ []) b c mid new result → Tells G names (take (i + 1) events) a c old new result
+      → TellsLines G names (take i events) a b old mid done → TellsLines G names (get_or events i event ∷ []) b c mid new result → TellsLines G names (take (i + 1) events) a c old new result
   tells_more events i event lt a b c old mid new result one two =
-      subst (λ (these : List Event). Tells G names these a c old new result) (sym (take_more events i event lt)) (tells_on (take i events) (get_or events i event ∷ []) a b c old mid new 0 result one two)
+      subst (λ (these : List Event). TellsLines G names these a c old new result) (sym (take_more events i event lt)) (tells_on (take i events) (get_or events i event ∷ []) a b c old mid new 0 result one two)
 
   -- another value, or a failure of another type
-  pub tells_well : {T U : Type 0} (events : List Event) (a b : List (ℕ × ℕ)) (old new : W) (value : T) (other : U) → Tells G names events a b old new (Ok value) → Tells G names events a b old new (Ok other)
+  pub tells_well : {T U : Type 0} (events : List Event) (a b : List (ℕ × ℕ)) (old new : W) (value : T) (other : U) → TellsLines G names events a b old new (Ok value) → TellsLines G names events a b old new (Ok other)
   tells_well events a b old new value other tells = record { lines = tells.lines; are = tells.are; printed = prints_well (G.printed old) (G.printed new) (flat_map line_text tells.lines) value other tells.printed; times = tells.times }
 
-  pub tells_broken : {T U : Type 0} (events : List Event) (a b : List (ℕ × ℕ)) (old new : W) (result : Result T Failed) (later : Result U Failed) → IsErr result → IsErr later → Tells G names events a b old new result → Tells G names events a b old new later
+  pub tells_broken : {T U : Type 0} (events : List Event) (a b : List (ℕ × ℕ)) (old new : W) (result : Result T Failed) (later : Result U Failed) → IsErr result → IsErr later → TellsLines G names events a b old new result → TellsLines G names events a b old new later
   tells_broken {T} {U} events a b old new result later one two tells = record {
     lines = tells.lines;
     are = tells.are;
@@ -351,16 +351,16 @@ module _ {W : Type 0} (G : Ghosts W) (names : List (List ℕ)) (events : List Ev
       end_is = inl refl;
       none = if_ok_each result (λ value is. refl);
       all = if_ok_then result (λ value shuts still. absurd (both_ways (shut value) still shuts)) closed;
-      printed = subst (λ (lines : List Line). Prints (G.printed before) (G.printed middle) (flat_map line_text (Open number ∷ lines)) result) (sym (append-nil some.tells.lines))
+      printed = subst (λ (lines : List ReportLine). Prints (G.printed before) (G.printed middle) (flat_map line_text (Open number ∷ lines)) result) (sym (append-nil some.tells.lines))
           (prints_same (G.printed before) (G.printed middle) _ (flat_map line_text (Open number ∷ some.tells.lines)) result (sym (flat_map-append line_text (Open number ∷ []) some.tells.lines))
           (prints_on (G.printed before) (G.printed between) (G.printed middle) (flat_map line_text (Open number ∷ [])) (flat_map line_text some.tells.lines) put result opened.printed some.tells.printed));
-      times = subst (λ (lines : List Line). PutsTimes G (length (Open number ∷ lines)) before middle result) (sym (append-nil some.tells.lines))
+      times = subst (λ (lines : List ReportLine). PutsTimes G (length (Open number ∷ lines)) before middle result) (sym (append-nil some.tells.lines))
           (times_on G before between middle (Open number ∷ []) some.tells.lines put result opened.printed opened.times some.tells.times);
     }
 
     -- all were answered, and the lines of an end put
-    pub told_ended : {T U : Type 0} (shut : U → Bool) (value : T) (result : Result U Failed) (after : W) (some : ℕ) (end : List Line) → take some events ≡ events → AreOfEnd end
-        → Tells G names (take some events) old new between middle {T = T} (Ok value) → Puts G end middle after result → IfOk result (λ value. shut value ≡ false) → TellsReport G names events old new before after shut result
+    pub told_ended : {T U : Type 0} (shut : U → Bool) (value : T) (result : Result U Failed) (after : W) (some : ℕ) (end : List ReportLine) → take some events ≡ events → AreOfEnd end
+        → TellsLines G names (take some events) old new between middle {T = T} (Ok value) → Puts G end middle after result → IfOk result (λ value. shut value ≡ false) → TellsReport G names events old new before after shut result
     told_ended {T} {U} shut value result after some end whole of_end tells puts still = record {
       number = number;
       count = some;
@@ -385,7 +385,7 @@ pub told_since : {W : Type 0} (G : Ghosts W) (names : List (List ℕ)) (events :
 told_since G names events old new before between after same puts how = grind (arith, nat_tests, is_closed, times_since)
 
 -- what was reported is a replay that went so
-pub replays_so : {D W : Type 0} (S : desk.Ghosts D) (G : Ghosts W) (opening : Opening) (events : List Event) (new : D) (span : Span W) (how : Replayed)
+pub replays_so : {D W : Type 0} (S : desk.Ghosts D) (G : Ghosts W) (opening : Opening) (events : List Event) (new : D) (span : Interval W) (how : Replayed)
     → Reports S G opening events new span is_closed (way_of how) → IfOk (way_of how) (λ going. is_damaged going ≡ false) → Replays S G opening events new span how
 replays_so S G opening events new span (replayed.Damaged offset) reports undamaged = both_ways true undamaged refl
 replays_so S G opening events new span replayed.Ended reports undamaged = reports

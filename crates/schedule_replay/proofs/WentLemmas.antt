@@ -1,11 +1,11 @@
 -- One event of a run, and its lines.
-use Rattle.schedule_replay.proofs.Common.{◌≡◌, ℕ, zero, suc, ◌+◌, ◌≤◌, List, [], ◌∷◌, ◌++◌, length, map, take, refl, sym, ap, ◌∙◌, subst, arith, length-append, append-nil, inr, IsSome, true, false, not, Bool, Option, unwrap_or, Result, All, flat_map, Failed, Ghosts, Prints, IsSure, CallsDisk, Leaves, FewerLater, held_of, elapses-trans, leaves_on, told_is, Program, stands, Event, TookEvent, IsEitherOf, standing_of, Desk, Word, Doubt, Step, step, faulted, Line, line_text, number_after, happening_lines, event_lines, commits_seen, IsUnbroken, IsLeft, IsStage, seen_cut, seen_all, commits_in, AreNames, Stepped, step_by, run_plain, left_quiet, left_open, stage_either, Puts, PutsTimes, shown_of, Ran, InDoubt, WasStep, text_of, view_of, RanTo, nat_tests, opening, span}
+use Rattle.schedule_replay.proofs.Common.{◌≡◌, ℕ, zero, suc, ◌+◌, ◌≤◌, List, [], ◌∷◌, ◌++◌, length, map, take, refl, sym, ap, ◌∙◌, subst, arith, length-append, append-nil, inr, IsSome, true, false, not, Bool, Option, unwrap_or, Result, All, flat_map, Failed, Ghosts, Prints, IsSure, CallsDisk, Leaves, FewerLater, held_of, elapses-trans, leaves_on, told_is, Program, stands, Event, TookEvent, IsEitherOf, standing_of, Desk, DiskWord, Doubt, Step, step, faulted, ReportLine, line_text, number_after, happening_lines, event_lines, commits_seen, IsUnbroken, IsLeft, IsStage, seen_cut, seen_all, commits_in, AreNames, Stepped, step_by, run_plain, left_quiet, left_open, stage_either, Puts, PutsTimes, shown_on, Ran, InDoubt, WasStep, run_text, view_by, RanTo, nat_tests, opening, span}
 use Rattle.desk.specs.declared.supervisor.Supervisor as desk
 use Rattle.schedule_replay.proofs.PutsLemmas.{PrintedNow, puts_same, begins_none}
 use Rattle.schedule_replay.proofs.RanToLemmas.{ShownTold, to_did, to_later}
 
 -- the lines of one event are those of what happened at it
-pub one_event : (names : List (List ℕ)) (programs : List Program) (number : ℕ) (event : Event) (word : Word) (desk : Desk) (after : Step) → step programs event word desk ≡ after → event_lines names programs number ((event, word) ∷ []) desk ≡ happening_lines names (number_after number after.desk) after.happening
+pub one_event : (names : List (List ℕ)) (programs : List Program) (number : ℕ) (event : Event) (word : DiskWord) (desk : Desk) (after : Step) → step programs event word desk ≡ after → event_lines names programs number ((event, word) ∷ []) desk ≡ happening_lines names (number_after number after.desk) after.happening
 one_event names programs number event word desk after is = grind (arith, nat_tests, append-nil)
 
 -- the last of two lists that are one
@@ -29,31 +29,31 @@ pub record Laws {D W : Type 0} (S : desk.Ghosts D) (G : Ghosts W) : Type 0 where
 
 module _ {D W : Type 0} (S : desk.Ghosts D) (G : Ghosts W) (fewer_later : FewerLater G) (printed_now : PrintedNow G) where
   -- bytes that were sure are, after puts
-  pub sure_puts : {T : Type 0} (lines : List Line) (before after : W) (result : Result T Failed) → Puts G lines before after result → IsSure G before → IsSure G after × (held_of G after ≡ held_of G before)
+  pub sure_puts : {T : Type 0} (lines : List ReportLine) (before after : W) (result : Result T Failed) → Puts G lines before after result → IsSure G before → IsSure G after × (held_of G after ≡ held_of G before)
   sure_puts lines before after result puts sure = grind (arith, nat_tests)
 
   -- a crash in a put leaves the bytes that were sure
-  pub image_is : {T : Type 0} (lines : List Line) (before after : W) (result : Result T Failed) → Puts G lines before after result → IsSure G before → IsSome (G.printed before)
-      → Leaves G (λ image seen. (image ≡ held_of G before) × ((count : ℕ) × (seen ≡ shown_of G before ++ take count (flat_map line_text lines)))) before after
-  image_is lines before after result puts sure told image seen left = grind (arith, told_is (G.held before) image sure.told (sure.durable image (shown_of G before) (puts.crash told image seen left).0), (puts.crash told image seen left).1)
+  pub image_is : {T : Type 0} (lines : List ReportLine) (before after : W) (result : Result T Failed) → Puts G lines before after result → IsSure G before → IsSome (G.printed before)
+      → Leaves G (λ image seen. (image ≡ held_of G before) × ((count : ℕ) × (seen ≡ shown_on G before ++ take count (flat_map line_text lines)))) before after
+  image_is lines before after result puts sure told image seen left = grind (arith, told_is (G.held before) image sure.told (sure.durable image (shown_on G before) (puts.crash told image seen left).0), (puts.crash told image seen left).1)
 
   -- what a call of the disk leaves printed
-  pub quiet_is : (before between : W) → CallsDisk G before between → IsSome (G.printed before) → Leaves G (λ image seen. seen ≡ shown_of G before) before between
+  pub quiet_is : (before between : W) → CallsDisk G before between → IsSome (G.printed before) → Leaves G (λ image seen. seen ≡ shown_on G before) before between
   quiet_is before between calls told image seen left = grind (arith, nat_tests, told_is)
 
   module _ (law : ShownTold S) (names : List (List ℕ)) (are : AreNames names) (programs : List Program) (number : ℕ) where
-    module _ {T : Type 0} (event : Event) (lines : List Line) (start : Desk) (new : D) (before between after : W) (result : Result T Failed) (was_open : start.closed ≡ false) (opened : (S.told new).fixed.opened ≡ number) (calls : CallsDisk G before between) (was : WasStep S G (opening names programs number start) event lines new (span before between)) (puts : Puts G lines between after result) where
-      abbrev did : TookEvent G (record { programs = programs; number = number; event = event; told = was.told }) (view_of S new) start before between
+    module _ {T : Type 0} (event : Event) (lines : List ReportLine) (start : Desk) (new : D) (before between after : W) (result : Result T Failed) (was_open : start.closed ≡ false) (opened : (S.told new).fixed.opened ≡ number) (calls : CallsDisk G before between) (was : WasStep S G (opening names programs number start) event lines new (span before between)) (puts : Puts G lines between after result) where
+      abbrev did : TookEvent G (record { programs = programs; number = number; event = event; told = was.told }) (view_by S new) start before between
       did = was.did
 
-      abbrev word : Word
+      abbrev word : DiskWord
       word = did.word
 
       abbrev went : Step
       went = step programs event word start
 
       abbrev text : List ℕ
-      text = text_of (opening names programs number start) ((event, word) ∷ [])
+      text = run_text (opening names programs number start) ((event, word) ∷ [])
 
       next_is : went.desk ≡ did.next
       next_is = ap (λ (after : Step). after.desk) did.stepped
@@ -81,7 +81,7 @@ module _ {D W : Type 0} (S : desk.Ghosts D) (G : Ghosts W) (fewer_later : FewerL
       either image seen left = subst (λ (desk : Desk). IsEitherOf programs number event start desk image) (sym next_is) (did.crash image seen left)
 
       abbrev Left : List ℕ → List ℕ → Type 0
-      Left image seen = IsLeft programs number start ((event, word) ∷ []) text (shown_of G before) image seen
+      Left image seen = IsLeft programs number start ((event, word) ∷ []) text (shown_on G before) image seen
 
       -- its images, without a word on the screen
       images_disk : Leaves G (λ image seen. IsStage programs number start ((event, word) ∷ []) image) before between
@@ -92,36 +92,36 @@ module _ {D W : Type 0} (S : desk.Ghosts D) (G : Ghosts W) (fewer_later : FewerL
 
       in_disk : IsSome (G.printed before) → Leaves G Left before between
       in_disk told image seen left =
-          left_quiet programs number event word names start was_open image text (shown_of G before) seen 0 (either image seen left) (quiet_is before between calls told image seen left ∙ sym (append-nil (shown_of G before))) refl
+          left_quiet programs number event word names start was_open image text (shown_on G before) seen 0 (either image seen left) (quiet_is before between calls told image seen left ∙ sym (append-nil (shown_on G before))) refl
 
       in_puts : (shut : Bool) → went.desk.closed ≡ shut → IsSome (G.printed before) → Leaves G Left between after
       in_puts true shut told image seen left =
           let same : G.printed between ≡ G.printed before = calls.quiet.same in
           let from = lines_put.crash (subst (λ (those : Option (List ℕ)). IsSome those) (sym same) told) image seen left in
-          let shown : shown_of G between ≡ shown_of G before = ap (λ (those : Option (List ℕ)). unwrap_or those []) same in
-          left_quiet programs number event word names start was_open image text (shown_of G before) seen from.1.0
-          (either image (shown_of G between) (fewer_later between (G.moment before) (G.moment between) image (shown_of G between) calls.time.later from.0)) (cc (from.1.1, shown)) (none shut from.1.0)
+          let shown : shown_on G between ≡ shown_on G before = ap (λ (those : Option (List ℕ)). unwrap_or those []) same in
+          left_quiet programs number event word names start was_open image text (shown_on G before) seen from.1.0
+          (either image (shown_on G between) (fewer_later between (G.moment before) (G.moment between) image (shown_on G between) calls.time.later from.0)) (cc (from.1.1, shown)) (none shut from.1.0)
       in_puts false still told image seen left =
           let same : G.printed between ≡ G.printed before = calls.quiet.same in
-          let shown : shown_of G between ≡ shown_of G before = ap (λ (those : Option (List ℕ)). unwrap_or those []) same in
+          let shown : shown_on G between ≡ shown_on G before = ap (λ (those : Option (List ℕ)). unwrap_or those []) same in
           let kept = did.still (ap (λ (desk : Desk). desk.closed) (sym next_is) ∙ still) in
           let from = image_is (event_lines names programs number ((event, word) ∷ []) start) between after result lines_put kept.0 (subst (λ (those : Option (List ℕ)). IsSome those) (sym same) told) image seen left in
-          left_open programs number event word names start was_open image text (shown_of G before) seen from.1.0 still
+          left_open programs number event word names start was_open image text (shown_on G before) seen from.1.0 still
           (ap stands from.0 ∙ (law new (held_of G between) did.next kept.1).standing ∙ ap (λ n. standing_of n did.next) opened ∙ ap (standing_of number) (sym next_is))
           (from.1.1 ∙ ap (λ (these : List ℕ). these ++ take from.1.0 text) shown) few
 
       -- what it left, once its lines were put
       comes_to : RanTo S G went.desk (event_lines names programs number ((event, word) ∷ []) start) (faulted ((event, word) ∷ [])) new (span before after)
       comes_to =
-          subst (λ (these : List Line). RanTo S G went.desk these (faulted ((event, word) ∷ [])) new (span before after)) (sym lines_are)
+          subst (λ (these : List ReportLine). RanTo S G went.desk these (faulted ((event, word) ∷ [])) new (span before after)) (sym lines_are)
           (subst (λ (desk : Desk). RanTo S G desk lines (faulted ((event, word) ∷ [])) new (span before after)) (sym next_is)
           (to_later S G did.next lines (faulted ((event, word) ∷ [])) new before between after puts.only.held puts.only.disk puts.only.writes (λ sure. (sure_puts lines between after result puts sure).0)
           (to_did S G programs number event names lines start new before between was calls.disk)))
 
-      in_doubt : went.desk.closed ≡ true → (front : List (Event × Word)) (one : Event) → (event, word) ∷ [] ≡ front ++ (one, Doubt) ∷ [] → InDoubt G (opening names programs number start) front one after
+      in_doubt : went.desk.closed ≡ true → (front : List (Event × DiskWord)) (one : Event) → (event, word) ∷ [] ≡ front ++ (one, Doubt) ∷ [] → InDoubt G (opening names programs number start) front one after
       in_doubt shut front one is =
           let last = last_is [] front (event, word) (one, Doubt) is in
-          let doubted : word ≡ Doubt = ap (λ (pair : Event × Word). pair.1) last.1 in
+          let doubted : word ≡ Doubt = ap (λ (pair : Event × DiskWord). pair.1) last.1 in
           let place = did.doubt doubted (ap (λ (desk : Desk). desk.closed) (sym next_is) ∙ shut) in
           let images = λ (image seen : List ℕ). lines_put.images image seen in
           let later = λ (image seen : List ℕ). fewer_later after (G.moment between) (G.moment after) image seen lines_put.only.time.later in

@@ -12,7 +12,7 @@ use Rattle.arrayvec.specs.ArrayVec.{ArrayVec}
 use Rattle.desk.specs.Seen.{IsUnbroken}
 
 -- a supervisor that these events may be asked of, one after another
-pub record IsReady {D W : Type 0} (S : desk.Ghosts D) (G : Ghosts W) (events : List Event) (desk : D) (outside : W) : Type 0 where
+pub record MayBeAsked {D W : Type 0} (S : desk.Ghosts D) (G : Ghosts W) (events : List Event) (desk : D) (outside : W) : Type 0 where
   pub asked : All (IsAsked (length (S.told desk).fixed.programs)) events
   pub begins : (S.told desk).given + begins_in events ≤ (S.told desk).fixed.begins
   pub turns : (S.told desk).turns + turns_in events ≤ 2 ^ 32
@@ -20,7 +20,7 @@ pub record IsReady {D W : Type 0} (S : desk.Ghosts D) (G : Ghosts W) (events : L
 
 -- these events may be asked of it, and each of its programs has a name, which has no line feed
 pub record CanReplay {D W : Type 0} (S : desk.Ghosts D) (G : Ghosts W) (named : List (ArrayVec ℕ)) (events : List Event) (desk : D) (outside : W) : Type 0 where
-  pub ready : IsReady S G events desk outside
+  pub ready : MayBeAsked S G events desk outside
   pub names : length (S.told desk).fixed.programs ≤ length named
   pub unbroken : All (λ name. IsUnbroken name.items) named
 

@@ -3,9 +3,9 @@ pub use Rattle.std.specs.List.{flat_map, fold}
 pub use Rattle.desk.specs.Answers.{begun_told, counts_told, ending_told, reopened_told, stored_closes, stored_told, turn_closes, turn_told}
 pub use Rattle.desk.specs.Commits.{is_commit}
 pub use Rattle.desk.specs.Desk.{Desk}
-pub use Rattle.desk.specs.Instruction.{Doubt, Word}
+pub use Rattle.desk.specs.Instruction.{Doubt, DiskWord}
 pub use Rattle.desk.specs.Kept.{HoldsStore, journal_in, KeepsJournal, StillTold, tells_fault, WritesMore}
-pub use Rattle.desk.specs.Lines.{Closed, End, Left, Line, line_text, Open}
+pub use Rattle.desk.specs.ReportLines.{Closed, End, Left, ReportLine, line_text, Open}
 pub use Rattle.desk.specs.Report.{closing_lines, cycle_lines, ending_lines, event_lines, happening_lines, number_after, report, report_lines}
 pub use Rattle.desk.specs.Run.{faulted, Happening, IsRunOf, OpenBeforeEach, run}
 pub use Rattle.desk.specs.Told.{OfShown, seen, Told}

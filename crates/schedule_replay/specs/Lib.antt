@@ -1,6 +1,6 @@
 pub mod Below
 pub mod Asked
-pub mod Puts
+pub mod LinesPut
 pub mod Answered
 pub mod Told
 pub mod Runs

@@ -1,11 +1,11 @@
 -- What running events without a report did.
 use Rattle.std.specs.Prelude.{◌≡◌, ℕ, ◌+◌, ◌≤◌, count_by, Bool, true, false, List, [], ◌∷◌, ◌++◌, map, Option, None, Some, IfSome, Result, Ok}
-use Rattle.schedule_replay.specs.Below.{Begun, CallsDisk, Crash, Desk, Event, Failed, faulted, fold, Ghosts, held_of, is_commit, IsStage, IsSure, Leaves, Line, OpenBeforeEach, Stored, TurnEnd, Word}
+use Rattle.schedule_replay.specs.Below.{Begun, CallsDisk, Crash, Desk, Event, Failed, faulted, fold, Ghosts, held_of, is_commit, IsStage, IsSure, Leaves, ReportLine, OpenBeforeEach, Stored, TurnEnd, DiskWord}
 use Rattle.desk.specs.declared.answers.Begun.TheVariants as begun
 use Rattle.desk.specs.declared.answers.Stored.TheVariants as stored
 use Rattle.desk.specs.declared.answers.TurnEnd.TheVariants as end
 use Rattle.desk.specs.declared.supervisor.Supervisor as desk
-use Rattle.desk.specs.Lines as line
+use Rattle.desk.specs.ReportLines as line
 use Rattle.schedule_replay.specs.declared.events.Going.{Going}
 use Rattle.schedule_replay.specs.declared.events.Going.TheVariants as going
 use Rattle.schedule_replay.specs.declared.quietly.Quiet.{Quiet}
@@ -14,7 +14,7 @@ use Rattle.schedule_replay.specs.declared.quietly.Tally.{Tally}
 use Rattle.schedule_replay.specs.Answered.{Answered, GoesBy, GoesShut, is_closed}
 use Rattle.schedule_replay.specs.Ran.{IfInDoubt, InDoubt, WasStep}
 use Rattle.schedule_replay.specs.RanTo.{RanTo}
-use Rattle.schedule_replay.specs.Runs.{Opening, Span, end_of, lines_of, opening_of, span}
+use Rattle.schedule_replay.specs.Runs.{Opening, Interval, run_end, lines_of, opening_of, span}
 
 -- no put failed
 abbrev pub unput : Result ℕ Failed
@@ -26,7 +26,7 @@ IsLasting Crash = ⊥
 IsLasting _ = Unit {0}
 
 -- whether a line tells of a rollback: of a check, of a record without room, of a page that can't be read, or of a victim
-abbrev pub is_rollback : Line → Bool
+abbrev pub is_rollback : ReportLine → Bool
 is_rollback (line.Check activation code address) = true
 is_rollback (line.Journal activation lines limit) = true
 is_rollback (line.Disk activation) = true
@@ -34,12 +34,12 @@ is_rollback (line.Victim activation) = true
 is_rollback _ = false
 
 -- what the last commit printed after one line more
-abbrev pub out_after : List ℕ → Line → List ℕ
+abbrev pub out_after : List ℕ → ReportLine → List ℕ
 out_after last (line.Commit activation number steps out) = out
 out_after last _ = last
 
 -- a tally is that of lines: how many commits and how many rollbacks they tell of, and what the last commit printed, after what one before had
-pub record Tells (tally : Tally) (old new : List ℕ) (lines : List Line) : Type 0 where
+pub record TallyTells (tally : Tally) (old new : List ℕ) (lines : List ReportLine) : Type 0 where
   pub commits : tally.commits ≡ count_by is_commit lines
   pub rollbacks : tally.rollbacks ≡ count_by is_rollback lines
   pub last : new ≡ fold out_after old lines
@@ -86,24 +86,24 @@ going_of (quiet.Ended commits rollbacks) = going.On
 going_of quiet.Closed = going.Closed
 
 -- an event was a step of the desk, and what it came to is told, where it left the desk open
-pub record WentQuietly {D W : Type 0} (S : desk.Ghosts D) (G : Ghosts W) (opening : Opening) (event : Event) (new : D) (span : Span W) (old_last new_last : List ℕ) (tally : Option Tally) : Type 0 where
-  pub lines : List Line
+pub record WentQuietly {D W : Type 0} (S : desk.Ghosts D) (G : Ghosts W) (opening : Opening) (event : Event) (new : D) (span : Interval W) (old_last new_last : List ℕ) (tally : Option Tally) : Type 0 where
+  pub lines : List ReportLine
   pub step : WasStep S G opening event lines new span
-  pub tells : IfSome tally (λ tally. Tells tally old_last new_last lines)
+  pub tells : IfSome tally (λ tally. TallyTells tally old_last new_last lines)
 
 -- Events were run from a desk, each with a word, and nothing was put: what `Ran` says but for its lines, which nobody sees. The image that
 -- a crash since the start left is one of the run, whatever was printed before.
-pub record RanQuietly {D W : Type 0} (S : desk.Ghosts D) (G : Ghosts W) (opening : Opening) (events : List Event) (new : D) (span : Span W) : Type 0 where
-  pub taken : List (Event × Word)
+pub record RanQuietly {D W : Type 0} (S : desk.Ghosts D) (G : Ghosts W) (opening : Opening) (events : List Event) (new : D) (span : Interval W) : Type 0 where
+  pub taken : List (Event × DiskWord)
   pub events_taken : map (λ event. event.0) taken ≡ events
   pub each_open : OpenBeforeEach opening.programs taken opening.start
-  pub to : RanTo S G (end_of opening taken) (lines_of opening taken) (faulted taken) new span
+  pub to : RanTo S G (run_end opening taken) (lines_of opening taken) (faulted taken) new span
   pub images : Leaves G (λ image seen. IsStage opening.programs opening.number opening.start taken image) span.before span.after
-  pub doubt : IfInDoubt taken (end_of opening taken).closed (λ front event. InDoubt G opening front event span.after)
+  pub doubt : IfInDoubt taken (run_end opening taken).closed (λ front event. InDoubt G opening front event span.after)
 
 -- the counts of a run that ended, and what its last commit printed, are those of its lines
-abbrev pub TellsAll : Quiet → (last : List ℕ) → List Line → Type 0
-TellsAll (quiet.Ended commits rollbacks) last lines = Tells (record { commits = commits; rollbacks = rollbacks }) [] last lines
+abbrev pub TellsAll : Quiet → (last : List ℕ) → List ReportLine → Type 0
+TellsAll (quiet.Ended commits rollbacks) last lines = TallyTells (record { commits = commits; rollbacks = rollbacks }) [] last lines
 TellsAll quiet.Closed last lines = Unit {0}
 
 -- whether the desk is closed in the end
@@ -113,7 +113,7 @@ is_shut quiet.Closed = true
 
 -- There is one run of the first of the events from the desk that was shown, and all events were run where it is open in the end. Its
 -- counts are those of its lines.
-pub record RunsQuietly {D W : Type 0} (S : desk.Ghosts D) (G : Ghosts W) (opening : Opening) (events : List Event) (new : D) (span : Span W) (last : List ℕ) (quiet : Quiet) : Type 0 where
+pub record RunsQuietly {D W : Type 0} (S : desk.Ghosts D) (G : Ghosts W) (opening : Opening) (events : List Event) (new : D) (span : Interval W) (last : List ℕ) (quiet : Quiet) : Type 0 where
   pub front : List Event
   pub rest : List Event
   pub whole : front ++ rest ≡ events

@@ -1,6 +1,6 @@
 -- What replaying a schedule did.
 use Rattle.std.specs.Prelude.{◌≡◌, ℕ, length, Bool, true, false, List, [], ◌∷◌, ◌++◌, map, Result, IfOk, IsSome}
-use Rattle.schedule_replay.specs.Below.{Begun, closing_lines, Desk, End, Event, Failed, faulted, Ghosts, held_of, IsLeft, IsRunOf, IsStage, IsSure, Leaves, Left, line_text, OfShown, OnlyPuts, Open, Prints, Reopened, Word}
+use Rattle.schedule_replay.specs.Below.{Begun, closing_lines, Desk, End, Event, Failed, faulted, Ghosts, held_of, IsLeft, IsRunOf, IsStage, IsSure, Leaves, Left, line_text, OfShown, OnlyPuts, Open, Prints, Reopened, DiskWord}
 use Rattle.desk.specs.declared.answers.Begun.TheVariants as begun
 use Rattle.desk.specs.declared.answers.Reopened.TheVariants as reopened
 use Rattle.desk.specs.declared.supervisor.Supervisor as desk
@@ -9,11 +9,11 @@ use Rattle.schedule_replay.specs.declared.events.Going.TheVariants as going
 use Rattle.schedule_replay.specs.declared.events.Replayed.{Replayed}
 use Rattle.schedule_replay.specs.declared.events.Replayed.TheVariants as replayed
 use Rattle.schedule_replay.specs.Answered.{Answered, GoesBy, GoesShut, is_closed, way_of}
-use Rattle.schedule_replay.specs.Puts.{Puts, PutsTimes, shown_of}
-use Rattle.schedule_replay.specs.Ran.{HasOpened, Ran, PrintsEarlier, IfInDoubt, InDoubt, text_of}
+use Rattle.schedule_replay.specs.LinesPut.{Puts, PutsTimes, shown_on}
+use Rattle.schedule_replay.specs.Ran.{HasOpened, Ran, PrintsEarlier, IfInDoubt, InDoubt, run_text}
 use Rattle.schedule_replay.specs.RanTo.{RanTo}
-use Rattle.schedule_replay.specs.Runs.{Opening, Span, end_of, lines_of, opening_of, report_of, report_lines_of, span}
-use Rattle.schedule_replay.specs.Told.{Tells, TellsReport, TellsSome}
+use Rattle.schedule_replay.specs.Runs.{Opening, Interval, run_end, lines_of, opening_of, report_of, report_lines_of, span}
+use Rattle.schedule_replay.specs.Told.{TellsLines, TellsReport, TellsSome}
 
 -- whether it was an answer that the bytes are damaged
 abbrev pub is_damaged : Going → Bool
@@ -39,17 +39,17 @@ going_by reopened.Shut = going.Closed
 
 -- One event was asked and its lines put: what that keeps, how it goes on, which lines they are, and the run of this event alone, from bytes that are
 -- sure and show a desk, which are never found damaged.
-pub record WentBy {D W : Type 0} (S : desk.Ghosts D) (G : Ghosts W) (names : List (List ℕ)) (event : Event) (old new : D) (span : Span W) (result : Result Going Failed) : Type 0 where
+pub record WentBy {D W : Type 0} (S : desk.Ghosts D) (G : Ghosts W) (names : List (List ℕ)) (event : Event) (old new : D) (span : Interval W) (result : Result Going Failed) : Type 0 where
   pub answered : Answered S G (event ∷ []) old new span.before span.after result
   pub goes : IfOk result (λ going. GoesBy S G old new span.before span.after going)
   pub shut : (S.told old).closed ≡ true → IfOk result (λ how. how ≡ going.Closed)
   pub ran : (start : Desk) → IsSure G span.before → S.shows old (held_of G span.before) start → Ran S G (opening_of names (S.told old).fixed start) (event ∷ []) new span result
   pub closed : IfOk result (λ going. (S.told new).closed ≡ is_closed going)
   pub undamaged : (start : Desk) → IsSure G span.before → S.shows old (held_of G span.before) start → IfOk result (λ going. is_damaged going ≡ false)
-  pub tells : Tells G names (event ∷ []) (S.told old).order (S.told new).order span.before span.after result
+  pub tells : TellsLines G names (event ∷ []) (S.told old).order (S.told new).order span.before span.after result
 
 -- The first of the events were run, and their lines put. All events were run where the desk goes on.
-pub record RanSome {D W : Type 0} (S : desk.Ghosts D) (G : Ghosts W) (opening : Opening) (events : List Event) (new : D) (span : Span W) (result : Result Going Failed) : Type 0 where
+pub record RanSome {D W : Type 0} (S : desk.Ghosts D) (G : Ghosts W) (opening : Opening) (events : List Event) (new : D) (span : Interval W) (result : Result Going Failed) : Type 0 where
   pub front : List Event
   pub rest : List Event
   pub whole : front ++ rest ≡ events
@@ -62,23 +62,23 @@ pub record RanSome {D W : Type 0} (S : desk.Ghosts D) (G : Ghosts W) (opening : 
 -- a put failed, which has the first line and those of all events but the last. A result says whether the desk is closed; all events were run where it
 -- goes on. The image that a crash at any moment since the start left is one of the run, and where printed bytes are told it lacks no commit that was
 -- seen by then, and has at most one more.
-pub record Reports {D W : Type 0} (S : desk.Ghosts D) (G : Ghosts W) (opening : Opening) (events : List Event) (new : D) (span : Span W) {T : Type 0} (shut : T → Bool) (result : Result T Failed) : Type 0 where
-  pub taken : List (Event × Word)
+pub record Reports {D W : Type 0} (S : desk.Ghosts D) (G : Ghosts W) (opening : Opening) (events : List Event) (new : D) (span : Interval W) {T : Type 0} (shut : T → Bool) (result : Result T Failed) : Type 0 where
+  pub taken : List (Event × DiskWord)
   pub rest : List Event
   pub is_run : IsRunOf opening.programs events opening.start taken rest
-  pub to : RanTo S G (end_of opening taken) (lines_of opening taken) (faulted taken) new span
+  pub to : RanTo S G (run_end opening taken) (lines_of opening taken) (faulted taken) new span
   pub printed : Prints (G.printed span.before) (G.printed span.after) (report_of opening taken rest) result
   pub times : PutsTimes G (length (report_lines_of opening taken rest)) span.before span.after result
-  pub earlier : PrintsEarlier (G.printed span.before) (G.printed span.after) (λ front. line_text (Open opening.number) ++ text_of opening front) taken
+  pub earlier : PrintsEarlier (G.printed span.before) (G.printed span.after) (λ front. line_text (Open opening.number) ++ run_text opening front) taken
   pub closed : IfOk result (λ value. (S.told new).closed ≡ shut value)
   pub all : IfOk result (λ value. shut value ≡ false → rest ≡ [])
   pub images : Leaves G (λ image seen. IsStage opening.programs opening.number opening.start taken image) span.before span.after
-  pub left : IsSome (G.printed span.before) → Leaves G (IsLeft opening.programs opening.number opening.start taken (report_of opening taken rest) (shown_of G span.before)) span.before span.after
-  pub doubt : IfInDoubt taken (end_of opening taken).closed (λ front event. InDoubt G opening front event span.after)
+  pub left : IsSome (G.printed span.before) → Leaves G (IsLeft opening.programs opening.number opening.start taken (report_of opening taken rest) (shown_on G span.before)) span.before span.after
+  pub doubt : IfInDoubt taken (run_end opening taken).closed (λ front event. InDoubt G opening front event span.after)
 
 -- The events were replayed: to the end, to the one that closed the desk, or to the one in whose report a put failed. Bytes that are sure
 -- and shown are never found damaged.
-abbrev pub Replays : {D W : Type 0} → desk.Ghosts D → Ghosts W → Opening → List Event → D → Span W → Replayed → Type 0
+abbrev pub Replays : {D W : Type 0} → desk.Ghosts D → Ghosts W → Opening → List Event → D → Interval W → Replayed → Type 0
 Replays S G opening events new span (replayed.Damaged offset) = ⊥
 Replays S G opening events new span how = Reports S G opening events new span is_closed (way_of how)
 

@@ -1,7 +1,7 @@
 -- What a run begins with, and between which two moments it went.
 use Rattle.std.specs.Prelude.{ℕ, List}
 use Rattle.flat_machine.specs.declared.machine.Program.{Program}
-use Rattle.schedule_replay.specs.Below.{Desk, Event, event_lines, Line, report, report_lines, run, Word}
+use Rattle.schedule_replay.specs.Below.{Desk, Event, event_lines, ReportLine, report, report_lines, run, DiskWord}
 use Rattle.desk.specs.Calls.{Fixed}
 
 -- what a run begins with: the names that its lines give the programs, these programs, the number with which the store opened, and the first desk
@@ -20,25 +20,25 @@ abbrev pub opening_of : List (List ℕ) → Fixed → Desk → Opening
 opening_of names fixed start = opening names fixed.programs fixed.opened start
 
 -- an outside at the start of a call, and at its end
-pub record Span (W : Type 0) : Type 0 where
+pub record Interval (W : Type 0) : Type 0 where
   pub before : W
   pub after : W
 
 -- these two as one
-abbrev pub span : {W : Type 0} → W → W → Span W
+abbrev pub span : {W : Type 0} → W → W → Interval W
 span before after = record { before = before; after = after }
 
 -- the desk at which events with their words leave a run
-abbrev pub end_of : Opening → List (Event × Word) → Desk
-end_of begins taken = run begins.programs taken begins.start
+abbrev pub run_end : Opening → List (Event × DiskWord) → Desk
+run_end begins taken = run begins.programs taken begins.start
 
 -- their lines
-abbrev pub lines_of : Opening → List (Event × Word) → List Line
+abbrev pub lines_of : Opening → List (Event × DiskWord) → List ReportLine
 lines_of begins taken = event_lines begins.names begins.programs begins.number taken begins.start
 
 -- the bytes and the lines of the whole report, where these events were left
-abbrev pub report_of : Opening → List (Event × Word) → List Event → List ℕ
+abbrev pub report_of : Opening → List (Event × DiskWord) → List Event → List ℕ
 report_of begins taken rest = report begins.names begins.programs begins.number taken rest begins.start
 
-abbrev pub report_lines_of : Opening → List (Event × Word) → List Event → List Line
+abbrev pub report_lines_of : Opening → List (Event × DiskWord) → List Event → List ReportLine
 report_lines_of begins taken rest = report_lines begins.names begins.programs begins.number taken rest begins.start

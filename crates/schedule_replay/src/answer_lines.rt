@@ -3,8 +3,8 @@ ghost use Rattle.std.specs.Prelude.{◌≡◌, ◌<◌, ◌≤◌, ℕ, List, []
 ghost use Rattle.schedule_replay.specs.Below.{begun_told, Closed, cycle_lines, ending_lines, ending_told, flat_map, happening_lines, reopened_told, stored_told, turn_told};
 ghost use Rattle.lines.specs.Waits.{victim_of};
 ghost use Rattle.report_text.specs.Line.{line_told, IsShort};
-ghost use Rattle.desk.specs.Lines.{Doubt};
-ghost use Rattle.schedule_replay.specs.Puts.{Puts, number_told, stored_number, reopened_number, counted_lines, unended_told};
+ghost use Rattle.desk.specs.ReportLines.{Doubt};
+ghost use Rattle.schedule_replay.specs.LinesPut.{Puts, end_number, stored_number, reopened_number, counted_lines, unended_told};
 
 use desk::{Begun, Cycle, Reopened, Stored, Turn, TurnEnd};
 use job_text::Name;
@@ -55,7 +55,7 @@ pub fn put_turn<W: Outside>(
     outside: &mut W,
 ) -> Result<(), Failed>
     requires { length printed.now ≤ 4096 }
-    ensures { (names : List (List ℕ)) → Puts W.Outside (happening_lines names (number_told turn.now.end) (turn_told activation turn.now printed.now)) outside.old outside.new result }
+    ensures { (names : List (List ℕ)) → Puts W.Outside (happening_lines names (end_number turn.now.end) (turn_told activation turn.now printed.now)) outside.old outside.new result }
 {
     match turn.end {
         TurnEnd::Idle => put_one(&Line::Idle(activation), reporter, outside),
@@ -129,7 +129,7 @@ fn put_end<W: Outside>(
     outside: &mut W,
 ) -> Result<(), Failed>
     requires { length printed.now ≤ 4096 }
-    ensures { Puts W.Outside (ending_lines (number_told end.now) activation (ending_told end.now printed.now)) outside.old outside.new result }
+    ensures { Puts W.Outside (ending_lines (end_number end.now) activation (ending_told end.now printed.now)) outside.old outside.new result }
 {
     match end {
         TurnEnd::Idle | TurnEnd::Limit | TurnEnd::Victim | TurnEnd::Shut => Ok(()),

@@ -4,7 +4,7 @@ ghost use Rattle.schedule_replay.specs.Below.{stored_closes, turn_closes};
 ghost use Rattle.desk.specs.Seen.{IsUnbroken};
 ghost use Rattle.desk.specs.declared.event.Event.TheVariants as event;
 ghost use Rattle.job_text.specs.Written.{texts_of};
-ghost use Rattle.schedule_replay.specs.Answered.{CanReplay, IsReady, way_of};
+ghost use Rattle.schedule_replay.specs.Answered.{CanReplay, MayBeAsked, way_of};
 ghost use Rattle.schedule_replay.specs.Runs.{span};
 ghost use Rattle.schedule_replay.specs.Replays.{HasPutEvents, HasReported, PutsClosing, WentBy, going_if, going_begun, going_by};
 
@@ -157,7 +157,7 @@ fn answer_turn<S: Supervisor, W: Outside>(
     reporter: &mut Reporter,
     outside: &mut W,
 ) -> Result<Going, Failed>
-    requires ready { IsReady S.Supervisor W.Outside (event.Turn activation limit ∷ []) desk.old outside.old }
+    requires ready { MayBeAsked S.Supervisor W.Outside (event.Turn activation limit ∷ []) desk.old outside.old }
     requires unbroken { All (λ name. IsUnbroken name.items) names.now }
     ensures { WentBy S.Supervisor W.Outside (texts_of names.now) (event.Turn activation limit)
         desk.old desk.new (span outside.old outside.new) result }

@@ -6,4 +6,4 @@ mod events;
 mod quietly;
 
 pub use events::{Replayed, replay};
-pub use quietly::{Printed, Quiet, run_quiet};
+pub use quietly::{LastPrinted, Quiet, run_quiet};

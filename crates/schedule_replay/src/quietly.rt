@@ -1,6 +1,6 @@
 // The events of a schedule, one after another, without a report.
 ghost use Rattle.std.specs.Prelude.{◌≡◌, ◌≤◌, [], ◌∷◌, All, length};
-ghost use Rattle.schedule_replay.specs.Answered.{IsReady};
+ghost use Rattle.schedule_replay.specs.Answered.{MayBeAsked};
 ghost use Rattle.schedule_replay.specs.Quiet.{HasGoneQuietly, HasRunQuietly, IsLasting, last_by, tally_begun, tally_by, tally_stored};
 
 use arrayvec::ArrayVec;
@@ -8,7 +8,7 @@ use desk::{Begun, Event, Stored, Supervisor, Turn, TurnEnd};
 use outside::Outside;
 
 /// What an activation has printed.
-pub type Printed = ArrayVec<u8, 4096>;
+pub type LastPrinted = ArrayVec<u8, 4096>;
 
 /// How events went without a report.
 #[derive(Clone, Copy)]
@@ -39,10 +39,10 @@ const NOTHING: Tally = Tally {
 pub fn run_quiet<S: Supervisor, W: Outside>(
     desk: &mut S,
     events: &[Event],
-    last: &mut Printed,
+    last: &mut LastPrinted,
     outside: &mut W,
 ) -> Quiet
-    requires ready { IsReady S.Supervisor W.Outside events.now desk.old outside.old }
+    requires ready { MayBeAsked S.Supervisor W.Outside events.now desk.old outside.old }
     requires few { length events.now ≤ 10000 }
     requires lasting { All IsLasting events.now }
     ensures { HasRunQuietly S.Supervisor W.Outside desk.old desk.new outside.old outside.new
@@ -67,10 +67,10 @@ pub fn run_quiet<S: Supervisor, W: Outside>(
 fn answer<S: Supervisor, W: Outside>(
     desk: &mut S,
     event: Event,
-    last: &mut Printed,
+    last: &mut LastPrinted,
     outside: &mut W,
 ) -> Option<Tally>
-    requires ready { IsReady S.Supervisor W.Outside (event ∷ []) desk.old outside.old }
+    requires ready { MayBeAsked S.Supervisor W.Outside (event ∷ []) desk.old outside.old }
     requires lasting { IsLasting event }
     ensures { HasGoneQuietly S.Supervisor W.Outside desk.old desk.new outside.old outside.new
         event last.old.items last.new.items result }
@@ -88,7 +88,7 @@ fn answer<S: Supervisor, W: Outside>(
 }
 
 /// What an activation printed that has just committed, in place of what the one before did.
-fn keep_printed<S: Supervisor>(desk: &S, end: &TurnEnd, last: &mut Printed)
+fn keep_printed<S: Supervisor>(desk: &S, end: &TurnEnd, last: &mut LastPrinted)
     ensures { last.new.items ≡ last_by end.now (S.told desk.now).printed last.old.items }
 {
     if let TurnEnd::Committed(..) = end {

@@ -6,16 +6,16 @@ pub use Rattle.std.proofs.lemmas.List.Elements.{All-filter, All-get_or, All-head
 pub use Rattle.std.specs.List.{AllPairs, range_with_len, flat_map, insert, list_any}
 pub use Rattle.std.specs.Option.{ForSome, option_map, option_map_or}
 pub use Rattle.arrayvec.specs.ArrayVec.{ArrayVec}
-pub use Rattle.seats.specs.Held.{AreWithin, with_want, with_wants, conflicts_in, conflicts_with, holds_some, nothing, of_page, together}
-pub use Rattle.seats.specs.Holding.{Holding, IsWhole, bits_of_seats, in_conflict, is_in_conflict, no_lines_of, of_seat, taken, with_seat}
+pub use Rattle.seats.specs.Held.{AreWithin, with_want, with_wants, conflicts_in, some_conflict, holds_some, nothing, of_page, together}
+pub use Rattle.seats.specs.Holding.{Holding, IsWholeHolding, bits_of_seats, in_conflict, is_in_conflict, no_lines_of, of_seat, taken, with_seat}
 pub use Rattle.seats.specs.declared.request.Request.{Request}
 pub use Rattle.seats.specs.declared.request.Want.{Want}
 pub use Rattle.lines.proofs.CycleLemmas.{cycle-among, cycle-named, found-has, found-passes, none-passes}
 pub use Rattle.lines.proofs.SetLemmas.{has-append, has-filter, has-range, in_range, any-at, any-some}
 pub use Rattle.lines.specs.Sets.{distinct, has, size, meets}
 pub use Rattle.lines.specs.Waits.{shown_cycle, leads, next_shown, shown_after}
-pub use Rattle.seats.specs.Rows.{is_on, places_of, waits_in, places}
-pub use Rattle.seats.specs.Seating.{IsSeating, Seating, left, newcomer, number_in, numbers, seat_of, seated, sitter, took}
+pub use Rattle.seats.specs.Rows.{is_on, row_places, waits_in, places}
+pub use Rattle.seats.specs.Seating.{IsSeating, Seating, seat_left, newcomer, number_in, numbers_seated, seat_of, seated, sitter, took}
 unfoldable pub use Rattle.seats.specs.Seating.{next_seat}
 pub use Rattle.seats.specs.Waiting.{AreOfPage, cycle_of, holders, seat_at, seat_waits}
 pub use Rattle.seats.specs.declared.seat.Seat.{Seat}
@@ -29,7 +29,7 @@ pub use Rattle.lines.proofs.LineSetLemmas.{is_in-where, is_in_where-below, none-
 pub use Rattle.lines.specs.LineSets.{IsOfPage, lines_of_bits, union}
 unfoldable pub use Rattle.lines.specs.LineSets.{passing}
 pub use Rattle.lines.proofs.SizeLemmas.{size-alike, size-apart, size-part, size-range, IsPart}
-pub use Rattle.seats.specs.Counted.{AreListed, Ascend, IsCounted}
+pub use Rattle.seats.specs.Counted.{AreListed, Ascend, AreLinesCounted}
 pub use Rattle.lines.specs.Conflicts.{Lines, both, conflicts}
 pub use Rattle.seats.specs.Flat.{flat_lines, lines_wanted, IsFlat}
 pub use Rattle.std.specs.Int.{bit_at, trailing_zeros}

@@ -1,5 +1,5 @@
 -- What a seat holds page by page, and what it holds in flat lines.
-use Rattle.seats.proofs.Common.{flat_map, list_any, ◌⊎◌, arith, ap, sym, ◌∙◌, get_or-set_same, get_or-set_other, eqb-true, eqb-false, or_right, nat_tests, append-nil, append_assoc, length-set, All-head, All-tail, list_any-append, has, meets, has-append, IsOfPage, union, of_page-below, is_in_where-below, Want, of_page, together, with_want, with_wants, AreWithin, conflicts_with, ◌≡◌, ◌≢◌, refl, ℕ, ◌+◌, ◌*◌, ◌<◌, ◌==◌, ◌||◌, Bool, true, false, List, [], ◌∷◌, ◌++◌, length, All, Lines, both, conflicts, flat_lines, lines_wanted, IsFlat}
+use Rattle.seats.proofs.Common.{flat_map, list_any, ◌⊎◌, arith, ap, sym, ◌∙◌, get_or-set_same, get_or-set_other, eqb-true, eqb-false, or_right, nat_tests, append-nil, append_assoc, length-set, All-head, All-tail, list_any-append, has, meets, has-append, IsOfPage, union, of_page-below, is_in_where-below, Want, of_page, together, with_want, with_wants, AreWithin, some_conflict, ◌≡◌, ◌≢◌, refl, ℕ, ◌+◌, ◌*◌, ◌<◌, ◌==◌, ◌||◌, Bool, true, false, List, [], ◌∷◌, ◌++◌, length, All, Lines, both, conflicts, flat_lines, lines_wanted, IsFlat}
 
 -- lines of a page meet flat lines as they meet what these are of the page
 meets-page :
@@ -29,7 +29,7 @@ any-or p q (want ∷ wants) = grind (arith, any-or p q wants)
 pub conflict-flat :
     (pages : List (List ℕ × List ℕ)) (lines : Lines) (wants : List Want) → IsFlat pages lines
     → All (λ want. IsOfPage want.reads) wants → All (λ want. IsOfPage want.writes) wants
-    → conflicts (lines_wanted wants) lines ≡ conflicts_with pages wants
+    → conflicts (lines_wanted wants) lines ≡ some_conflict pages wants
 conflict-flat pages lines wants flat reads writes =
     ap (λ c. c || meets (lines_wanted wants).reads lines.writes) (meets-wants (λ want. want.writes) all_of (lines.reads ++ lines.writes) same wants writes)
     ∙ ap (λ c. list_any (λ want. meets want.writes (all_of want)) wants || c)

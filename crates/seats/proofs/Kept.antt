@@ -1,5 +1,5 @@
 -- Sixteen seats stay what they are as one is taken, left, or holds more.
-use Rattle.seats.proofs.Common.{ForSome, arith, ap, sym, ◌∙◌, get_or-set_same, get_or-set_other, eqb-true, eqb-false, or_parts, and_cases, not_from_false, length-set, length-replicate, All-set, All-push, All-filter, All-get_or, has, has-append, has-filter, Want, with_want, with_wants, AreWithin, Holding, IsWhole, no_lines_of, of_seat, with_seat, Seat, Seating, IsSeating, newcomer, number_in, seated, left, took, nat_tests, ◌≡◌, refl, ℕ, ◌<◌, ◌≤◌, ◌==◌, ◌&&◌, not, Bool, true, false, List, [], ◌∷◌, length, All, slice_index_or}
+use Rattle.seats.proofs.Common.{ForSome, arith, ap, sym, ◌∙◌, get_or-set_same, get_or-set_other, eqb-true, eqb-false, or_parts, and_cases, not_from_false, length-set, length-replicate, All-set, All-push, All-filter, All-get_or, has, has-append, has-filter, Want, with_want, with_wants, AreWithin, Holding, IsWholeHolding, no_lines_of, of_seat, with_seat, Seat, Seating, IsSeating, newcomer, number_in, seated, seat_left, took, nat_tests, ◌≡◌, refl, ℕ, ◌<◌, ◌≤◌, ◌==◌, ◌&&◌, not, Bool, true, false, List, [], ◌∷◌, length, All, slice_index_or}
 use Rattle.std.proofs.lemmas.List.Kept.{AllPairs-filter}
 use Rattle.std.proofs.lemmas.List.Quantifiers.{all_pairs_push}
 use Rattle.seats.proofs.Ascending.{all-has, few}
@@ -10,8 +10,8 @@ length-wants pages [] = refl
 length-wants pages (want ∷ wants) = length-wants (with_want pages want) wants ∙ length-set pages want.page _
 
 -- a seat of sixteen that holds something else
-module _ (holding : Holding) (seat : ℕ) (held : List (List ℕ × List ℕ)) (whole : IsWhole holding) where
-  pub whole-with : length held ≡ holding.pages → IsWhole (with_seat holding seat held)
+module _ (holding : Holding) (seat : ℕ) (held : List (List ℕ × List ℕ)) (whole : IsWholeHolding holding) where
+  pub whole-with : length held ≡ holding.pages → IsWholeHolding (with_seat holding seat held)
   whole-with long = (length-set holding.seats seat held ∙ whole.0, All-set (λ one. length one ≡ holding.pages) holding.seats seat held long whole.1)
 
   pub other-with : (other : ℕ) → (other == seat) ≡ false → of_seat (with_seat holding seat held) other ≡ of_seat holding other
@@ -32,7 +32,7 @@ module _ (seating : Seating) (is : IsSeating seating) where
   pub few-taken : length seating.taken ≤ 16
   few-taken = few (number_in seating) seating.taken is.among is.ascending
 
-  pub kept-left : (seat : ℕ) → seat < 16 → IsSeating (left seating seat)
+  pub kept-left : (seat : ℕ) → seat < 16 → IsSeating (seat_left seating seat)
   kept-left seat below = record {
     sixteen = is.sixteen;
     among = All-filter (λ other. not (other == seat)) (λ seat. seat < 16) seating.taken is.among;

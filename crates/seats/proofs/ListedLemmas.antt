@@ -1,5 +1,5 @@
 -- The pages of which something is held, as they are listed and ascend, and how many lines are held to write.
-use Rattle.seats.proofs.Common.{range_with_len, arith, ap, sym, ◌∙◌, subst, get_or, get_or-set_same, get_or-set_other, eqb-true, eqb-false, eq-eqb, or_parts, or_left, or_right, not-false, get_or-replicate, length_push, nil_from_length, get_or_past, same_lists, get_or_default, length-replicate, has, meets, size, has-append, in_range, size-part, size-range, size-apart, IsOfPage, union, is_in_where-below, of_page-below, Want, nothing, of_page, holds_some, together, conflicts_with, AreListed, nat_tests, ◌≡◌, refl, ℕ, zero, suc, ◌+◌, ◌<◌, ◌==◌, ◌&&◌, not, if◌then◌else◌, Bool, true, false, List, [], ◌∷◌, ◌++◌, length, replicate, slice_set, insert, IsPermutation, IsBinarySearchResult, inl, inr, both_ways, cases_lt, size-alike, Ascend, ◌≢◌, ◌-◌, ◌≤◌, ◌⊎◌, Result, Ok, Err, sum_by-le, sum_by-replicate, All-replicate, IsCounted, ◌*◌}
+use Rattle.seats.proofs.Common.{range_with_len, arith, ap, sym, ◌∙◌, subst, get_or, get_or-set_same, get_or-set_other, eqb-true, eqb-false, eq-eqb, or_parts, or_left, or_right, not-false, get_or-replicate, length_push, nil_from_length, get_or_past, same_lists, get_or_default, length-replicate, has, meets, size, has-append, in_range, size-part, size-range, size-apart, IsOfPage, union, is_in_where-below, of_page-below, Want, nothing, of_page, holds_some, together, some_conflict, AreListed, nat_tests, ◌≡◌, refl, ℕ, zero, suc, ◌+◌, ◌<◌, ◌==◌, ◌&&◌, not, if◌then◌else◌, Bool, true, false, List, [], ◌∷◌, ◌++◌, length, replicate, slice_set, insert, IsPermutation, IsBinarySearchResult, inl, inr, both_ways, cases_lt, size-alike, Ascend, ◌≢◌, ◌-◌, ◌≤◌, ◌⊎◌, Result, Ok, Err, sum_by-le, sum_by-replicate, All-replicate, AreLinesCounted, ◌*◌}
 use Rattle.std.specs.Ordering.{nat_cmp}
 use Rattle.std.specs.Result.{MatchResult}
 use Rattle.std.proofs.lemmas.List.Edits.{get_or-insert_below, get_or-insert_at, get_or-insert_above, length-insert}
@@ -75,7 +75,7 @@ all-none pages count long none =
     (λ k d within. get_or_default pages k d nothing within ∙ none k ∙ sym (get_or-replicate count k nothing d (omega (arith, within, long))))
 
 -- where no page is listed, nothing is in conflict with what is held
-pub none-conflicts : (pages : List (List ℕ × List ℕ)) → AreListed pages [] → (wants : List Want) → conflicts_with pages wants ≡ false
+pub none-conflicts : (pages : List (List ℕ × List ℕ)) → AreListed pages [] → (wants : List Want) → some_conflict pages wants ≡ false
 none-conflicts pages are [] = refl
 none-conflicts pages are (want ∷ wants) =
     grind (arith, none-held (of_page pages want.page), are.each want.page, free want.writes, free want.reads, none-conflicts pages are wants)
@@ -182,11 +182,11 @@ module _ (list : List ℕ) (ascend : Ascend list) where
         omega (arith, high k from to, get_or_default list k d 0 to)
 
 -- they are few
-pub all_few : (pages : List (List ℕ × List ℕ)) (written : ℕ) → IsCounted pages written → written ≤ 16 * 65535
+pub all_few : (pages : List (List ℕ × List ℕ)) (written : ℕ) → AreLinesCounted pages written → written ≤ 16 * 65535
 all_few pages written kept = omega (arith, kept.counted, kept.few, sum_by-le (λ (held : List ℕ × List ℕ). length held.1) 16 pages kept.lines)
 
 -- none are held where nothing is
-pub none-counted : (count : ℕ) → count < 65536 → IsCounted (replicate count nothing) 0
+pub none-counted : (count : ℕ) → count < 65536 → AreLinesCounted (replicate count nothing) 0
 none-counted count few = record {
   few = omega (arith, few, length-replicate count nothing);
   lines = All-replicate (λ (held : List ℕ × List ℕ). length held.1 ≤ 16) count nothing (omega arith);

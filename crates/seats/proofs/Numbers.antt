@@ -1,5 +1,5 @@
 -- Seats by the numbers and the flat lines, and places among them: holders, waits and the shown cycle.
-use Rattle.seats.proofs.Common.{option_map_or, ap, sym, ◌∙◌, eqb-true, eq-eqb, or_right, has, shown_cycle, found-has, found-passes, none-passes, cycle-named, Request, Want, of_seat, is_in_conflict, Seating, IsSeating, sitter, number_in, numbers, seat_of, holders, seat_waits, cycle_of, AreOfPage, arith, nat_tests, ◌≡◌, refl, ℕ, ◌==◌, ◌&&◌, not, Bool, true, false, List, [], ◌∷◌, map, filter, Option, Some, None, Lines, conflicts, lines_wanted, IsFlat, range_with_len, option_map, inl, inr, ne_eqb, ltb-true, cases_eq, cases_lt, same_lists, get_or_default, has-range, in_range, cycle-among, waits_in, places_of, seat_at, ◌<◌, length, length-map-range_with_len, get_or-map-range_with_len}
+use Rattle.seats.proofs.Common.{option_map_or, ap, sym, ◌∙◌, eqb-true, eq-eqb, or_right, has, shown_cycle, found-has, found-passes, none-passes, cycle-named, Request, Want, of_seat, is_in_conflict, Seating, IsSeating, sitter, number_in, numbers_seated, seat_of, holders, seat_waits, cycle_of, AreOfPage, arith, nat_tests, ◌≡◌, refl, ℕ, ◌==◌, ◌&&◌, not, Bool, true, false, List, [], ◌∷◌, map, filter, Option, Some, None, Lines, conflicts, lines_wanted, IsFlat, range_with_len, option_map, inl, inr, ne_eqb, ltb-true, cases_eq, cases_lt, same_lists, get_or_default, has-range, in_range, cycle-among, waits_in, row_places, seat_at, ◌<◌, length, length-map-range_with_len, get_or-map-range_with_len}
 use Rattle.seats.proofs.FlatLemmas.{conflict-flat}
 use Rattle.seats.proofs.Ascending.{apart}
 use Rattle.std.proofs.lemmas.Simd.{map-map}
@@ -55,7 +55,7 @@ module _ (seating : Seating) (is : IsSeating seating) where
   -- the shown cycle among numbers, by waits that are those among the seats
   pub cycle-numbers : (named : ℕ → ℕ → Bool) (seat : ℕ)
       → ((from to : ℕ) → has seating.taken from ≡ true → has seating.taken to ≡ true → named (number_in seating from) (number_in seating to) ≡ seat_waits seating from to)
-      → has seating.taken seat ≡ true → cycle_of seating seat ≡ shown_cycle named (numbers seating) (number_in seating seat)
+      → has seating.taken seat ≡ true → cycle_of seating seat ≡ shown_cycle named (numbers_seated seating) (number_in seating seat)
   cycle-numbers named seat same there =
       sym (cycle-named (number_in seating) (seat_waits seating) named seating.taken (record { same = same; apart = apart-taken }) seat there)
 
@@ -88,7 +88,7 @@ module _ (seating : Seating) (is : IsSeating seating) where
       (are : (from to : ℕ) → from < length seating.taken → to < length seating.taken → waits_in rows from to ≡ seat_waits seating (seat_at seating from) (seat_at seating to)) where
     -- the shown cycle from a seat by the places of the seats in it
     cycle-placed : (place : ℕ) → place < length seating.taken
-        → shown_cycle (seat_waits seating) seating.taken (seat_at seating place) ≡ option_map (map (seat_at seating)) (shown_cycle (waits_in rows) (places_of rows) place)
+        → shown_cycle (seat_waits seating) seating.taken (seat_at seating place) ≡ option_map (map (seat_at seating)) (shown_cycle (waits_in rows) (row_places rows) place)
     cycle-placed place within =
         ap (λ (all : List ℕ). shown_cycle (seat_waits seating) all (seat_at seating place)) (sym map-at)
         ∙ cycle-named (seat_at seating) (waits_in rows) (seat_waits seating) (range_with_len 0 (length seating.taken))
@@ -100,16 +100,16 @@ module _ (seating : Seating) (is : IsSeating seating) where
         ∙ ap (λ (n : ℕ). option_map (map (seat_at seating)) (shown_cycle (waits_in rows) (range_with_len 0 n) place)) (sym long)
 
     -- and by the numbers there
-    pub cycle-numbered : (place : ℕ) (members : List ℕ) → place < length seating.taken → shown_cycle (waits_in rows) (places_of rows) place ≡ Some members
+    pub cycle-numbered : (place : ℕ) (members : List ℕ) → place < length seating.taken → shown_cycle (waits_in rows) (row_places rows) place ≡ Some members
         → cycle_of seating (seat_at seating place) ≡ Some (map (λ place. number_in seating (seat_at seating place)) members)
     cycle-numbered place members within shown = grind (arith, nat_tests, cycle-placed, map-map)
 
-    pub cycle-none : (place : ℕ) → place < length seating.taken → shown_cycle (waits_in rows) (places_of rows) place ≡ None → cycle_of seating (seat_at seating place) ≡ None
+    pub cycle-none : (place : ℕ) → place < length seating.taken → shown_cycle (waits_in rows) (row_places rows) place ≡ None → cycle_of seating (seat_at seating place) ≡ None
     cycle-none place within shown = ap (option_map (map (number_in seating))) (cycle-placed place within ∙ ap (option_map (map (seat_at seating))) shown)
 
     -- each of them is a place
-    pub member-below : (place : ℕ) (members : List ℕ) (member : ℕ) → place < length seating.taken → shown_cycle (waits_in rows) (places_of rows) place ≡ Some members
+    pub member-below : (place : ℕ) (members : List ℕ) (member : ℕ) → place < length seating.taken → shown_cycle (waits_in rows) (row_places rows) place ≡ Some members
         → has members member ≡ true → member < length seating.taken
     member-below place members member within shown inside =
-        let below = range-below (length rows) member (cycle-among (waits_in rows) (places_of rows) place members member (in_range 0 (length rows) place (omega arith) (omega (arith, within, long))) shown inside) in
+        let below = range-below (length rows) member (cycle-among (waits_in rows) (row_places rows) place members member (in_range 0 (length rows) place (omega arith) (omega (arith, within, long))) shown inside) in
         omega (arith, below, long)

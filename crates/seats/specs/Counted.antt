@@ -5,7 +5,7 @@ use Rattle.lines.specs.Sets.{has, size}
 use Rattle.seats.specs.Held.{of_page, holds_some, write_count}
 
 -- so many lines are held to write of pages with sixteen lines each
-pub record IsCounted (pages : List (List ℕ × List ℕ)) (written : ℕ) : Type 0 where
+pub record AreLinesCounted (pages : List (List ℕ × List ℕ)) (written : ℕ) : Type 0 where
   pub few : length pages < 65536
   pub lines : All (λ held. length held.1 ≤ 16) pages
   pub counted : written ≡ write_count pages

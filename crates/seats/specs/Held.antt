@@ -43,5 +43,5 @@ abbrev pub conflicts_in : Want → List ℕ × List ℕ → Bool
 conflicts_in want held = conflicts (record { reads = want.reads; writes = want.writes }) (record { reads = held.0; writes = held.1 })
 
 -- whether that is so of some wanted page
-abbrev pub conflicts_with : List (List ℕ × List ℕ) → List Want → Bool
-conflicts_with pages wants = list_any (λ want. conflicts_in want (of_page pages want.page)) wants
+abbrev pub some_conflict : List (List ℕ × List ℕ) → List Want → Bool
+some_conflict pages wants = list_any (λ want. conflicts_in want (of_page pages want.page)) wants

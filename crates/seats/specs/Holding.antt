@@ -2,7 +2,7 @@
 use Rattle.std.specs.Prelude.{◌≡◌, ℕ, ◌^◌, ◌==◌, ◌&&◌, not, Bool, List, [], length, All, sum_by, replicate, slice_set, slice_index_or}
 use Rattle.lines.specs.LineSets.{passing}
 use Rattle.seats.specs.declared.request.Want.{Want}
-use Rattle.seats.specs.Held.{nothing, of_page, with_wants, conflicts_with}
+use Rattle.seats.specs.Held.{nothing, of_page, with_wants, some_conflict}
 
 -- the number of the store's pages, and what each seat holds of each page
 pub record Holding : Type 0 where
@@ -10,8 +10,8 @@ pub record Holding : Type 0 where
   pub seats : List (List (List ℕ × List ℕ))
 
 -- there are sixteen seats, each with that many pages
-abbrev pub IsWhole : Holding → Type 0
-IsWhole holding = (length holding.seats ≡ 16) × All (λ seat. length seat ≡ holding.pages) holding.seats
+abbrev pub IsWholeHolding : Holding → Type 0
+IsWholeHolding holding = (length holding.seats ≡ 16) × All (λ seat. length seat ≡ holding.pages) holding.seats
 
 -- nothing of so many pages
 abbrev pub no_lines_of : ℕ → List (List ℕ × List ℕ)
@@ -43,7 +43,7 @@ released holding seat = with_seat holding seat (no_lines_of holding.pages)
 
 -- whether a seat is another than the one that asks, and what that one wants conflicts with what it holds
 abbrev pub is_in_conflict : Holding → (asking : ℕ) → List Want → (other : ℕ) → Bool
-is_in_conflict holding asking wants other = not (other == asking) && conflicts_with (of_seat holding other) wants
+is_in_conflict holding asking wants other = not (other == asking) && some_conflict (of_seat holding other) wants
 
 -- the seats that are in conflict with what a seat wants, ascending
 abbrev pub in_conflict : Holding → ℕ → List Want → List ℕ

@@ -6,7 +6,7 @@ use Rattle.lines.specs.Sets.{has}
 use Rattle.seats.specs.declared.request.Request.{Request}
 use Rattle.seats.specs.declared.request.Want.{Want}
 use Rattle.seats.specs.Held.{AreWithin}
-use Rattle.seats.specs.Holding.{Holding, IsWhole, no_lines_of, nothing_held, of_seat, released, taken as holding_more}
+use Rattle.seats.specs.Holding.{Holding, IsWholeHolding, no_lines_of, nothing_held, of_seat, released, taken as holding_more}
 use Rattle.seats.specs.declared.seat.Seat.{Seat}
 
 -- the seats that are taken, in the order in which their activations began, who sits in each of all the seats, and what each holds
@@ -28,8 +28,8 @@ abbrev pub number_in : Seating → (seat : ℕ) → ℕ
 number_in seating seat = (sitter seating seat).number
 
 -- the numbers of the activations in the taken seats, ascending
-abbrev pub numbers : Seating → List ℕ
-numbers seating = map (number_in seating) seating.taken
+abbrev pub numbers_seated : Seating → List ℕ
+numbers_seated seating = map (number_in seating) seating.taken
 
 -- the taken seat in which an activation sits
 abbrev pub seat_of : Seating → (number : ℕ) → Option ℕ
@@ -52,8 +52,8 @@ abbrev pub seated : Seating → (seat : ℕ) → Seat → Seating
 seated seating seat who = record (with_sitter seating seat who) { taken = seating.taken ++ seat ∷ [] }
 
 -- who sits in a seat leaves it, and holds nothing any more
-abbrev pub left : Seating → (seat : ℕ) → Seating
-left seating seat = record seating { taken = filter (λ other. not (other == seat)) seating.taken; holding = released seating.holding seat }
+abbrev pub seat_left : Seating → (seat : ℕ) → Seating
+seat_left seating seat = record seating { taken = filter (λ other. not (other == seat)) seating.taken; holding = released seating.holding seat }
 
 -- who sits in a seat has done so many rows more, and waits for nothing
 abbrev pub went_on : Seating → (seat rows : ℕ) → Seating
@@ -74,5 +74,5 @@ pub record IsSeating (seating : Seating) : Type 0 where
   pub among : All (λ seat. seat < 16) seating.taken
   pub ascending : AllPairs (λ seat later. number_in seating seat < number_in seating later) seating.taken
   pub within : All (λ who. ForSome who.waits (λ request. AreWithin seating.holding.pages request.wants.items)) seating.sitters
-  pub whole : IsWhole seating.holding
+  pub whole : IsWholeHolding seating.holding
   pub free : (seat : ℕ) → seat < 16 → has seating.taken seat ≡ false → of_seat seating.holding seat ≡ no_lines_of seating.holding.pages

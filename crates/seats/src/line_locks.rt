@@ -2,7 +2,7 @@ ghost use Rattle.std.specs.Prelude.{◌≡◌, ◌<◌, ℕ, length, IfOk};
 ghost use Rattle.lines.specs.Sets.{has, size};
 ghost use Rattle.seats.specs.Counted.{Ascend};
 ghost use Rattle.seats.specs.Held.{holds_some, write_count, AreWithin};
-ghost use Rattle.seats.specs.Holding.{IsWhole, of_seat, nothing_held, held_at, is_in_conflict, in_conflict, bits_of_seats, taken, released};
+ghost use Rattle.seats.specs.Holding.{IsWholeHolding, of_seat, nothing_held, held_at, is_in_conflict, in_conflict, bits_of_seats, taken, released};
 
 use super::request::Request;
 use super::seat_lines::SeatLines;
@@ -22,13 +22,13 @@ pub struct Locks {
 }
 
 impl Model for Locks {
-    ghost use Rattle.seats.specs.Holding.{Holding, IsWhole};
+    ghost use Rattle.seats.specs.Holding.{Holding, IsWholeHolding};
 
     ghost Value = { Holding };
 
     ghost view = { λ locks. record { pages = locks.pages; seats = locks.seats.items } };
 
-    ghost invariant = { λ locks. IsWhole (record { pages = locks.pages; seats = locks.seats.items }) };
+    ghost invariant = { λ locks. IsWholeHolding (record { pages = locks.pages; seats = locks.seats.items }) };
 }
 
 impl Locks {
@@ -47,7 +47,7 @@ impl Locks {
     /// The number of the store's pages.
     pub fn pages(&self) -> u16
         ensures value { result ≡ self.now.pages }
-        ensures whole { IsWhole self.now }
+        ensures whole { IsWholeHolding self.now }
     {
         self.pages
     }

@@ -6,7 +6,7 @@ ghost use Rattle.std.specs.List.Sorted.{IsPermutation};
 ghost use Rattle.lines.specs.LineSets.{IsOfPage};
 ghost use Rattle.lines.specs.Sets.{has, meets};
 ghost use Rattle.seats.specs.Counted.{AreListed, Ascend};
-ghost use Rattle.seats.specs.Held.{nothing, of_page, holds_some, with_want, with_wants, conflicts_in, conflicts_with, write_count, AreWithin};
+ghost use Rattle.seats.specs.Held.{nothing, of_page, holds_some, with_want, with_wants, conflicts_in, some_conflict, write_count, AreWithin};
 
 use super::request::{Request, Want};
 use lines::LineSet;
@@ -25,13 +25,13 @@ impl Model for SeatLines {
     ghost use Rattle.std.specs.Prelude.{ℕ, List};
     ghost use Rattle.std.specs.Prelude.{◌≤◌, length};
     ghost use Rattle.std.specs.Vec.{vec_capacity};
-    ghost use Rattle.seats.specs.Counted.{IsCounted, AreListed, Ascend};
+    ghost use Rattle.seats.specs.Counted.{AreLinesCounted, AreListed, Ascend};
 
     ghost Value = { List (List ℕ × List ℕ) };
 
     ghost view = { λ seat. seat.pages.items };
 
-    ghost invariant = { λ seat. IsCounted seat.pages.items seat.written × AreListed seat.pages.items seat.held.items × (length seat.pages.items ≤ vec_capacity seat.held) × Ascend seat.held.items };
+    ghost invariant = { λ seat. AreLinesCounted seat.pages.items seat.written × AreListed seat.pages.items seat.held.items × (length seat.pages.items ≤ vec_capacity seat.held) × Ascend seat.held.items };
 }
 
 impl SeatLines {
@@ -76,7 +76,7 @@ impl SeatLines {
     #[inline]
     pub fn conflicts(&self, request: &Request) -> bool
         requires { AreWithin (length self.now) request.now.wants.items }
-        ensures { result ≡ conflicts_with self.now request.now.wants.items }
+        ensures { result ≡ some_conflict self.now request.now.wants.items }
     {
         if self.held.is_empty() {
             return false;

@@ -2,8 +2,8 @@ ghost use Rattle.std.specs.Prelude.{◌≡◌, ◌+◌, ◌<◌, ◌≤◌, ◌^
 ghost use Rattle.std.specs.Option.{option_map_or};
 ghost use Rattle.lines.specs.Sets.{has};
 ghost use Rattle.seats.specs.Held.{AreWithin};
-ghost use Rattle.seats.specs.Holding.{IsWhole, nothing_held};
-ghost use Rattle.seats.specs.Seating.{IsSeating, newcomer, sitter, number_in, numbers, seat_of, nobody_sits, next_seat, seated, left, went_on, waiting_for, took};
+ghost use Rattle.seats.specs.Holding.{IsWholeHolding, nothing_held};
+ghost use Rattle.seats.specs.Seating.{IsSeating, newcomer, sitter, number_in, numbers_seated, seat_of, nobody_sits, next_seat, seated, seat_left, went_on, waiting_for, took};
 
 use super::line_locks::Locks;
 use super::request::Request;
@@ -78,7 +78,7 @@ impl Seats {
 
     /// The numbers of the activations in the taken seats, ascending.
     pub fn numbers(&self) -> ArrayVec<u32, 16>
-        ensures { result.items ≡ numbers self.now }
+        ensures { result.items ≡ numbers_seated self.now }
     {
         let mut numbers = ArrayVec::new();
         for seat in self.taken() {
@@ -127,7 +127,7 @@ impl Seats {
     /// Who sits in a seat leaves it, and holds nothing any more.
     pub fn leave(&mut self, seat: u8)
         requires { seat < 16 }
-        ensures { self.new ≡ left self.old seat }
+        ensures { self.new ≡ seat_left self.old seat }
     {
         self.taken.retain(|other| *other != seat);
         self.locks.release(seat);

@@ -1,7 +1,7 @@
 ghost use Rattle.std.specs.Prelude.{◌≡◌, ◌<◌, ◌≤◌, length, find};
 ghost use Rattle.std.specs.Option.{option_map};
 ghost use Rattle.lines.specs.Waits.{shown_cycle};
-ghost use Rattle.seats.specs.Rows.{AreOn, awaits_one, is_on, places, places_of, row_leads, waits_in};
+ghost use Rattle.seats.specs.Rows.{AreOn, awaits_one, is_on, places, row_places, row_leads, waits_in};
 
 use arrayvec::ArrayVec;
 
@@ -13,7 +13,7 @@ use arrayvec::ArrayVec;
 pub fn shown_cycle(from: u8, waits: &[u16]) -> Option<ArrayVec<u8, 17>>
     requires from { from < length waits.now }
     requires few { length waits.now ≤ 16 }
-    ensures { option_map (λ cycle. cycle.items) result ≡ shown_cycle (waits_in waits.now) (places_of waits.now) from }
+    ensures { option_map (λ cycle. cycle.items) result ≡ shown_cycle (waits_in waits.now) (row_places waits.now) from }
 {
     let leading = leading_to(from, waits);
     if !is_on(leading, from) {

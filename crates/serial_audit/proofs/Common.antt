@@ -13,10 +13,10 @@ pub use Rattle.flat_machine.specs.Serial.{Activation, before_commit, committing,
 pub use Rattle.flat_machine.specs.declared.machine.Program.{Program}
 pub use Rattle.lines.specs.Directory.{Layout, byte_count}
 pub use Rattle.report_text.proofs.LineLemmas.{feed_of_words, not_both}
-pub use Rattle.serial_audit.specs.Audit.{AreSound, IsSound, Told, activations_of, flat_of, limit_of, pair_of, report_told, steps_allowed, told_of, IsFirstUnsound}
+pub use Rattle.serial_audit.specs.Audit.{AreSound, IsLineSound, ToldLine, activations_of, flat_of, limit_of, pair_of, report_told, steps_allowed, line_claim, IsFirstUnsound}
 pub use Rattle.serial_audit.specs.Bundle.{AreAllowed, HasHead, HasOneSplitting, IsBundle, IsWrongAt, Sizes, bundle_from, head_text, head_words, sizes_of}
-pub use Rattle.serial_audit.specs.Progress.{IsEntry, IsFresh, IsIndex, activation_in, marked, with_turns, IsTaken, MayFollow, Replays, Stands}
-pub use Rattle.serial_audit.specs.declared.index.Entry.{Entry}
+pub use Rattle.serial_audit.specs.Progress.{IsEntry, IsFresh, IsIndex, activation_in, marked_if, with_turns, IsTaken, MayFollow, ReplaysLine, Stands}
+pub use Rattle.serial_audit.specs.declared.index.Allowance.{Allowance}
 pub use Rattle.std.proofs.lemmas.Grind.{common_steps, flat_map-append}
 pub use Rattle.flat_machine.specs.Due.{touched_next, touched_within}
 pub use Rattle.lines.specs.Conflicts.{Lines, both}

@@ -2,7 +2,7 @@
 use Rattle.serial_audit.proofs.Common.{◌≡◌, ℕ, zero, suc, ◌<◌, ◌||◌, Bool, true, false, List, [], ◌∷◌, map, Some, refl, sym, ◌∙◌, ap, arith, map-append, FlatStore, Lines, both, Plain, after, touched_next, touched_within, Outcome, Commit, row, Activation, if_commit, touch_at, touches, touches_of_step, nat_tests, option_and_then_some, none-some, TraceIsEnough, lines_touched}
 use Rattle.lines.specs.Sets.{has}
 use Rattle.lines.proofs.SetLemmas.{has-append}
-use Rattle.flat_machine.specs.Agreement.{AgreeOn, DoesTheSame, SameWay, all_of, line_in}
+use Rattle.flat_machine.specs.Agreement.{AgreeOn, DoesTheSame, SameWay, all_of, flat_line}
 use Rattle.flat_machine.proofs.Agreement.{agreement_enough}
 use Rattle.serial_audit.proofs.StepLemmas.{touches_more}
 
@@ -58,7 +58,7 @@ agree_at_line : (activation : Activation) (store other : FlatStore) (n : ℕ) (r
     → AgreeOn store.directory (lines_touched (touches activation store (suc n))) store.bytes other.bytes
     → (line : ℕ) → has (lines_touched (touches activation store (suc n))) line ≡ true
     → (is_written : Bool) → has (touched_within activation.program activation.args store n).writes line ≡ is_written
-    → line_in store.directory reached.store line ≡ line_in store.directory bytes line
+    → flat_line store.directory reached.store line ≡ flat_line store.directory bytes line
 agree_at_line activation store other n reached bytes same agree line inside true is = grind (arith, nat_tests, has-append)
 agree_at_line activation store other n reached bytes same agree line inside false is =
     sym (same.kept line is) ∙ agree line inside ∙ same.kept_on_other line is
@@ -81,6 +81,6 @@ trace-enough activation (suc n) store other state whole whole_other one commits 
       bytes,
       rw (same.state_on_other, last) (ap (λ (s : Plain). Some (record s { store = bytes })) ends.1),
       touches_alike activation store other (suc n) (λ k below. same.touches k (omega arith)),
-      (λ line inside. ap (λ (s : Plain). line_in store.directory s.store line) (sym ends.1) ∙ agree_at_line activation store other n reached bytes same agree line inside (has (touched_within activation.program activation.args store n).writes line) refl),
+      (λ line inside. ap (λ (s : Plain). flat_line store.directory s.store line) (sym ends.1) ∙ agree_at_line activation store other n reached bytes same agree line inside (has (touched_within activation.program activation.args store n).writes line) refl),
       (λ line outside. same.kept_on_other line (not_written activation store n line outside)),
     ))

@@ -1,5 +1,5 @@
 -- What a job says of its activations: the begins first, then the turns, then the marks of commits.
-use Rattle.serial_audit.proofs.Common.{◌≡◌, ◌≢◌, ℕ, zero, suc, ◌+◌, ◌-◌, ◌^◌, ◌<◌, ◌==◌, ◌||◌, ◌↔◌, Bool, IsTrue, List, [], ◌∷◌, ◌++◌, length, map, min, set, sum, take, get_or, slice_get, Option, Some, None, option_map, MatchOption, inl, inr, refl, sym, ◌∙◌, ap, add-zero, zero-add, eq-eqb, ne_eqb, eqb-true, arith, Contains, get_or-set_same, length-set, map-append, take_more, slice_get-get_or, slice_get_within, Activation, numbered, Event, Turn, Job, Entry, Told, activations_of, limit_of, IsEntry, IsIndex, activation_in, marked, with_turns, nat_tests, Contains-append_cases, Contains-append_left, Contains-append_right, drop, add-one, drop-cons, Program, Begin, begun, cases_eq, or_cases}
+use Rattle.serial_audit.proofs.Common.{◌≡◌, ◌≢◌, ℕ, zero, suc, ◌+◌, ◌-◌, ◌^◌, ◌<◌, ◌==◌, ◌||◌, ◌↔◌, Bool, IsTrue, List, [], ◌∷◌, ◌++◌, length, map, min, set, sum, take, get_or, slice_get, Option, Some, None, option_map, MatchOption, inl, inr, refl, sym, ◌∙◌, ap, add-zero, zero-add, eq-eqb, ne_eqb, eqb-true, arith, Contains, get_or-set_same, length-set, map-append, take_more, slice_get-get_or, slice_get_within, Activation, numbered, Event, Turn, Job, Allowance, ToldLine, activations_of, limit_of, IsEntry, IsIndex, activation_in, marked_if, with_turns, nat_tests, Contains-append_cases, Contains-append_left, Contains-append_right, drop, add-one, drop-cons, Program, Begin, begun, cases_eq, or_cases}
 use Rattle.std.proofs.lemmas.List.Sums.{sum_by-append}
 
 -- a begin of a program that is there
@@ -59,18 +59,18 @@ held_twice : (s k most : ℕ) → min (min s most + k) most ≡ min (s + k) most
 held_twice s k most = omega arith
 
 -- entries have the steps of these events' turns
-abbrev pub HasTurns : List Event → List Entry → List Entry → Type 0
+abbrev pub HasTurns : List Event → List Allowance → List Allowance → Type 0
 HasTurns events old now = (place : ℕ) → slice_get now place ≡ option_map (with_turns events place) (slice_get old place)
 
 -- an event that is no turn of an entry leaves it
 past_at : (events : List Event) (i : ℕ) (d : Event) → i < length events
-    → (place : ℕ) (old found : Option Entry) → found ≡ option_map (with_turns (take i events) place) old
-    → ((entry : Entry) → found ≡ Some entry → limit_of (place + 1) (get_or events i d) ≡ 0)
+    → (place : ℕ) (old found : Option Allowance) → found ≡ option_map (with_turns (take i events) place) old
+    → ((entry : Allowance) → found ≡ Some entry → limit_of (place + 1) (get_or events i d) ≡ 0)
     → found ≡ option_map (with_turns (take (i + 1) events) place) old
 past_at events i d within place old found now none = grind (arith, nat_tests, limits_more, take, sum, add-zero, min)
 
 -- an event that is no turn of any of them
-past : (events : List Event) (i : ℕ) (d : Event) (old now : List Entry) → i < length events
+past : (events : List Event) (i : ℕ) (d : Event) (old now : List Allowance) → i < length events
     → ((place : ℕ) → place < length now → limit_of (place + 1) (get_or events i d) ≡ 0)
     → HasTurns (take i events) old now → HasTurns (take (i + 1) events) old now
 past events i d old now within none has = λ place.
@@ -78,13 +78,13 @@ past events i d old now within none has = λ place.
     (λ entry found. none place (slice_get_within now place entry found))
 
 -- an event that is no turn, and a turn of no entry
-pub past_other : (events : List Event) (i : ℕ) (d : Event) (old now : List Entry) → i < length events
+pub past_other : (events : List Event) (i : ℕ) (d : Event) (old now : List Allowance) → i < length events
     → ((activation limit : ℕ) → get_or events i d ≢ Turn activation limit)
     → HasTurns (take i events) old now → HasTurns (take (i + 1) events) old now
 past_other events i d old now within other has =
     past events i d old now within (λ place inside. not_turn (place + 1) (get_or events i d) other) has
 
-pub past_turn : (events : List Event) (i activation limit : ℕ) (d : Event) (old now : List Entry) → i < length events
+pub past_turn : (events : List Event) (i activation limit : ℕ) (d : Event) (old now : List Allowance) → i < length events
     → get_or events i d ≡ Turn activation limit → ((place : ℕ) → place < length now → place + 1 ≢ activation)
     → HasTurns (take i events) old now → HasTurns (take (i + 1) events) old now
 past_turn events i activation limit d old now within turn none has =
@@ -92,13 +92,13 @@ past_turn events i activation limit d old now within turn none has =
 
 -- the entry of a turn has as many steps more
 turned_at : (events : List Event) (i : ℕ) (d : Event) → i < length events
-    → (place limit : ℕ) (old : Option Entry) (entry : Entry) → Some entry ≡ option_map (with_turns (take i events) place) old
+    → (place limit : ℕ) (old : Option Allowance) (entry : Allowance) → Some entry ≡ option_map (with_turns (take i events) place) old
     → limit_of (place + 1) (get_or events i d) ≡ limit
     → Some (record entry { steps = min (entry.steps + limit) (2 ^ 64 - 1) }) ≡ option_map (with_turns (take (i + 1) events) place) old
 turned_at events i d within place limit old entry now its = grind (arith, nat_tests, take, sum, held_twice, min, limits_more)
 
 -- a turn of one of them
-pub turned : (events : List Event) (i activation limit place : ℕ) (d : Event) (old now : List Entry) (entry : Entry)
+pub turned : (events : List Event) (i activation limit place : ℕ) (d : Event) (old now : List Allowance) (entry : Allowance)
     → i < length events → get_or events i d ≡ Turn activation limit
     → place < length now → place + 1 ≡ activation → slice_get now place ≡ Some entry
     → HasTurns (take i events) old now
@@ -120,12 +120,12 @@ turned events i activation limit place d old now entry within turn inside its fo
 pub last_has : (x number : ℕ) → Contains (x ∷ []) number → x ≡ number
 last_has x number has = grind (arith, nat_tests)
 
-committed_more : (before : List Told) (told : Told) (committed : Bool) (number : ℕ)
-    → (IsTrue committed ↔ Contains (map (λ (earlier : Told). earlier.activation) before) number)
-    → (IsTrue (committed || (number == told.activation)) ↔ Contains (map (λ (earlier : Told). earlier.activation) (before ++ told ∷ [])) number)
+committed_more : (before : List ToldLine) (told : ToldLine) (committed : Bool) (number : ℕ)
+    → (IsTrue committed ↔ Contains (map (λ (earlier : ToldLine). earlier.activation) before) number)
+    → (IsTrue (committed || (number == told.activation)) ↔ Contains (map (λ (earlier : ToldLine). earlier.activation) (before ++ told ∷ [])) number)
 committed_more before told committed number was =
-    let lines = map (λ (earlier : Told). earlier.activation) before in
-    rw (map-append (λ (earlier : Told). earlier.activation) before (told ∷ [])) (
+    let lines = map (λ (earlier : ToldLine). earlier.activation) before in
+    rw (map-append (λ (earlier : ToldLine). earlier.activation) before (told ∷ [])) (
       λ is.
           elim (or_cases committed (number == told.activation) is) [
             | inl earlier ↦ Contains-append_left lines (told.activation ∷ []) number (was.0 earlier)
@@ -138,26 +138,26 @@ committed_more before told committed number was =
           ],
     )
 
-entry_more : (job : Job) (before : List Told) (told : Told) (place : ℕ) (found : Option Entry)
+entry_more : (job : Job) (before : List ToldLine) (told : ToldLine) (place : ℕ) (found : Option Allowance)
     → MatchOption found (slice_get (activations_of job) place ≡ None) (IsEntry job before place)
-    → MatchOption (option_map (marked told.activation place) found) (slice_get (activations_of job) place ≡ None) (IsEntry job (before ++ told ∷ []) place)
+    → MatchOption (option_map (marked_if told.activation place) found) (slice_get (activations_of job) place ≡ None) (IsEntry job (before ++ told ∷ []) place)
 entry_more job before told place None is = is
 entry_more job before told place (Some entry) is = grind (arith, nat_tests, committed_more before told entry.committed (place + 1) is.committed)
 
 -- an index behind one commit line more
-pub index_more : (job : Job) (before : List Told) (told : Told) (old now : List Entry) → IsIndex job before old
-    → ((place : ℕ) → slice_get now place ≡ option_map (marked told.activation place) (slice_get old place))
+pub index_more : (job : Job) (before : List ToldLine) (told : ToldLine) (old now : List Allowance) → IsIndex job before old
+    → ((place : ℕ) → slice_get now place ≡ option_map (marked_if told.activation place) (slice_get old place))
     → IsIndex job (before ++ told ∷ []) now
 index_more job before told old now index mark = λ place.
     rw (mark place) (entry_more job before told place (slice_get old place) (index place))
 
 -- marking none
-marked_none : (activation place : ℕ) (found : Option Entry) → ((entry : Entry) → found ≡ Some entry → place + 1 ≢ activation)
-    → found ≡ option_map (marked activation place) found
+marked_none : (activation place : ℕ) (found : Option Allowance) → ((entry : Allowance) → found ≡ Some entry → place + 1 ≢ activation)
+    → found ≡ option_map (marked_if activation place) found
 marked_none activation place found other = grind (arith, nat_tests)
 
-pub none_marked : (entries : List Entry) (activation : ℕ) → ((place : ℕ) → place < length entries → place + 1 ≢ activation)
-    → (place : ℕ) → slice_get entries place ≡ option_map (marked activation place) (slice_get entries place)
+pub none_marked : (entries : List Allowance) (activation : ℕ) → ((place : ℕ) → place < length entries → place + 1 ≢ activation)
+    → (place : ℕ) → slice_get entries place ≡ option_map (marked_if activation place) (slice_get entries place)
 none_marked entries activation none place =
     marked_none activation place (slice_get entries place) (λ entry is. none place (slice_get_within entries place entry is))
 
@@ -165,21 +165,21 @@ none_marked entries activation none place =
 numbered_at : (activations : List Activation) (place number : ℕ) → place + 1 ≡ number → numbered activations number ≡ slice_get activations place
 numbered_at activations place number its = grind (arith, nat_tests)
 
-pub none_begun : (job : Job) (before : List Told) (entries : List Entry) (number : ℕ) (activation : Activation) → IsIndex job before entries
+pub none_begun : (job : Job) (before : List ToldLine) (entries : List Allowance) (number : ℕ) (activation : Activation) → IsIndex job before entries
     → ((place : ℕ) → place < length entries → place + 1 ≢ number) → numbered (activations_of job) number ≡ Some activation → ⊥
 none_begun job before entries zero activation index none is = cc is
 none_begun job before entries (suc place) activation index none is =
     at (slice_get entries place) refl (index place)
   where
-    at : (found : Option Entry) → slice_get entries place ≡ found
+    at : (found : Option Allowance) → slice_get entries place ≡ found
         → MatchOption found (slice_get (activations_of job) place ≡ None) (IsEntry job before place) → ⊥
     at None same gone = cc (gone, is)
     at (Some entry) same begun = none place (slice_get_within entries place entry same) (omega arith)
 
-pub entry_at : (job : Job) (before : List Told) (entries : List Entry) (place : ℕ) (entry : Entry) → IsIndex job before entries
+pub entry_at : (job : Job) (before : List ToldLine) (entries : List Allowance) (place : ℕ) (entry : Allowance) → IsIndex job before entries
     → slice_get entries place ≡ Some entry → IsEntry job before place entry
 entry_at job before entries place entry index found = rw found at (index place)
 
-pub begun_at : (job : Job) (before : List Told) (place number : ℕ) (entry : Entry) → IsEntry job before place entry → place + 1 ≡ number
+pub begun_at : (job : Job) (before : List ToldLine) (place number : ℕ) (entry : Allowance) → IsEntry job before place entry → place + 1 ≡ number
     → numbered (activations_of job) number ≡ Some (activation_in entry)
 begun_at job before place number entry is its = numbered_at (activations_of job) place number its ∙ is.begun

@@ -2,7 +2,7 @@
 use Rattle.serial_audit.proofs.Common.{◌≡◌, ℕ, List, ◌∷◌, ◌++◌, codes, decimal, inl, inr, append_assoc, arith, HasHead, HasOneSplitting, IsBundle, IsWrongAt, Sizes, head_text, nat_tests, ◌+◌, ◌≤◌, [], length, take, drop, position, Some, None, length-append, AllByRecursion, join_with_byte, length-drop, length-take, take_at, take-append-drop, feed_of_words, AreAllowed, head_words}
 use Rattle.text_line.proofs.Words.{same_number}
 use Rattle.serial_audit.specs.declared.bundle.Bundle.{Bundle}
-use Rattle.report_text.specs.Words.{IsOneWord, is_feed}
+use Rattle.report_text.specs.Words.{IsOneWord, is_line_feed}
 use Rattle.report_text.proofs.PartLemmas.{number_word}
 
 -- the first line without its line feed
@@ -13,18 +13,18 @@ words_are : (sizes : Sizes) → AreAllowed sizes → AllByRecursion IsOneWord (h
 words_are sizes allowed = grind (arith, nat_tests, number_word)
 
 -- where a first line ends
-pub head_feed : (bytes rest : List ℕ) (sizes : Sizes) → HasHead bytes sizes rest → position is_feed bytes ≡ Some (length (head_inner sizes))
+pub head_feed : (bytes rest : List ℕ) (sizes : Sizes) → HasHead bytes sizes rest → position is_line_feed bytes ≡ Some (length (head_inner sizes))
 head_feed bytes rest sizes has = rw has.1 (feed_of_words (head_words sizes) rest (words_are sizes has.0))
 
 -- bytes without a line feed have none
-pub no_head : (bytes rest : List ℕ) (sizes : Sizes) → position is_feed bytes ≡ None → HasHead bytes sizes rest → ⊥
+pub no_head : (bytes rest : List ℕ) (sizes : Sizes) → position is_line_feed bytes ≡ None → HasHead bytes sizes rest → ⊥
 no_head bytes rest sizes none has = absurd (cc (head_feed bytes rest sizes has, none))
 
 up_to_feed : (inner rest : List ℕ) → (take (length inner) ((inner ++ 10 ∷ []) ++ rest) ≡ inner) × (take (length inner + 1) ((inner ++ 10 ∷ []) ++ rest) ≡ inner ++ 10 ∷ [])
 up_to_feed inner rest = grind (arith, nat_tests, append_assoc, take_at, length-append)
 
 -- what stands before the first line feed, and up to it
-pub head_before : (bytes rest : List ℕ) (sizes : Sizes) (at : ℕ) → position is_feed bytes ≡ Some at → HasHead bytes sizes rest
+pub head_before : (bytes rest : List ℕ) (sizes : Sizes) (at : ℕ) → position is_line_feed bytes ≡ Some at → HasHead bytes sizes rest
     → (take at bytes ≡ head_inner sizes) × (take (at + 1) bytes ≡ head_text sizes)
 head_before bytes rest sizes at place has = grind (arith, nat_tests, head_feed bytes rest sizes has, up_to_feed (head_inner sizes) rest)
 

@@ -1,6 +1,6 @@
 -- Commit lines one after another, and whether they are sound.
-use Rattle.serial_audit.proofs.Common.{◌≡◌, ℕ, ◌+◌, ◌%◌, ◌^◌, ◌<◌, ◌≤◌, true, false, List, [], ◌∷◌, ◌++◌, length, map, take, drop, get_or, slice_get, Option, Some, None, option_and_then, ◌⊎◌, inl, inr, refl, sym, ◌∙◌, ap, length-append, add-one, drop-cons, arith, map-append, take-append-drop, take_more, option_and_then_some, Layout, FlatStore, Plain, Activation, before_commit, committing, numbered, serial, Job, Entry, AreSound, IsSound, Told, activations_of, flat_of, pair_of, report_told, steps_allowed, IsIndex, activation_in, IsTaken, MayFollow, Replays, Stands, nat_tests, told_of, KeptStore, Progress, ◌==◌, ◌&&◌, Decides, ◌≢◌, append_assoc, Contains, IsFirstUnsound, Touch, AreTouches, touches, Contains-append_cases, false_from_ne_true}
-use Rattle.report_text.specs.declared.line.CommitLine.{CommitLine}
+use Rattle.serial_audit.proofs.Common.{◌≡◌, ℕ, ◌+◌, ◌%◌, ◌^◌, ◌<◌, ◌≤◌, true, false, List, [], ◌∷◌, ◌++◌, length, map, take, drop, get_or, slice_get, Option, Some, None, option_and_then, ◌⊎◌, inl, inr, refl, sym, ◌∙◌, ap, length-append, add-one, drop-cons, arith, map-append, take-append-drop, take_more, option_and_then_some, Layout, FlatStore, Plain, Activation, before_commit, committing, numbered, serial, Job, Allowance, AreSound, IsLineSound, ToldLine, activations_of, flat_of, pair_of, report_told, steps_allowed, IsIndex, activation_in, IsTaken, MayFollow, ReplaysLine, Stands, nat_tests, line_claim, KeptStore, Progress, ◌==◌, ◌&&◌, Decides, ◌≢◌, append_assoc, Contains, IsFirstUnsound, Touch, AreTouches, touches, Contains-append_cases, false_from_ne_true}
+use Rattle.report_text.specs.declared.report_line.CommitLine.{CommitLine}
 use Rattle.serial_audit.proofs.IndexLemmas.{begun_at, entry_at, last_has}
 
 -- pairs are the same where their parts are
@@ -32,16 +32,16 @@ serial_more activations (first ∷ commits) commit store left is =
     by_state later (Some state) same = later (record store { bytes = state.store }) same
 
 -- a commit line that may follow, and whose activation commits as it tells on what the others leave, is sound
-pub sound_here : (job : Job) (opening : KeptStore) (before : List Told) (told : Told) (activation : Activation) (progress : Progress) (directory : Layout) (state : Plain)
+pub sound_here : (job : Job) (opening : KeptStore) (before : List ToldLine) (told : ToldLine) (activation : Activation) (progress : Progress) (directory : Layout) (state : Plain)
     → opening.directory ≡ directory → Stands job opening before progress → MayFollow job opening before told activation
     → before_commit activation told.steps (record { directory = directory; bytes = progress.store }) ≡ Some state → told.out ≡ state.out
-    → IsSound job opening before told
+    → IsLineSound job opening before told
 sound_here job opening before told activation progress directory state same stands follows commits prints = grind (arith, nat_tests)
 
 -- behind it the check stands at its number, one line more, the index with its activation marked, and what it leaves
-pub taken : (job : Job) (opening : KeptStore) (before : List Told) (told : Told) (activation : Activation) (progress next : Progress) (directory : Layout)
+pub taken : (job : Job) (opening : KeptStore) (before : List ToldLine) (told : ToldLine) (activation : Activation) (progress next : Progress) (directory : Layout)
     → opening.directory ≡ directory → Stands job opening before progress → MayFollow job opening before told activation
-    → Replays activation (record { directory = directory; bytes = progress.store }) told next.store
+    → ReplaysLine activation (record { directory = directory; bytes = progress.store }) told next.store
     → next.number ≡ told.number → next.commits ≡ progress.commits + 1 → IsIndex job (before ++ told ∷ []) next.entries.items
     → IsTaken job opening before told (Some next)
 taken job opening before told activation progress next directory same stands follows again number commits index =
@@ -61,10 +61,10 @@ taken job opening before told activation progress next directory same stands fol
     )
 
 -- a sound line may follow, and its activation runs again on what the others leave
-pub refused : (job : Job) (opening : KeptStore) (before : List Told) (told : Told) (progress : Progress) (directory : Layout)
-    → opening.directory ≡ directory → Stands job opening before progress → IsSound job opening before told
+pub refused : (job : Job) (opening : KeptStore) (before : List ToldLine) (told : ToldLine) (progress : Progress) (directory : Layout)
+    → opening.directory ≡ directory → Stands job opening before progress → IsLineSound job opening before told
     → (activation : Activation) × MayFollow job opening before told activation
-    × ((left : List ℕ) × Replays activation (record { directory = directory; bytes = progress.store }) told left)
+    × ((left : List ℕ) × ReplaysLine activation (record { directory = directory; bytes = progress.store }) told left)
 refused job opening before told progress directory same stands sound =
     let here : sound.left ≡ record { directory = opening.directory; bytes = progress.store } = cc (sound.leaves, stands.leaves) in
     let runs = rw (here, same) at sound.commits in
@@ -80,12 +80,12 @@ refused job opening before told progress directory same stands sound =
     ))
 
 -- an activation has one number
-pub same_activation : (job : Job) (opening : KeptStore) (before : List Told) (told : Told) (one other : Activation)
+pub same_activation : (job : Job) (opening : KeptStore) (before : List ToldLine) (told : ToldLine) (one other : Activation)
     → MayFollow job opening before told one → MayFollow job opening before told other → one ≡ other
 same_activation job opening before told one other first second = cc (first.begun, second.begun)
 
 -- a line with the next number, of an entry that hasn't committed and allows its steps, may follow
-pub may_follow : (job : Job) (opening : KeptStore) (before : List Told) (told : Told) (progress : Progress) (place : ℕ) (entry : Entry)
+pub may_follow : (job : Job) (opening : KeptStore) (before : List ToldLine) (told : ToldLine) (progress : Progress) (place : ℕ) (entry : Allowance)
     → Stands job opening before progress → slice_get progress.entries.items place ≡ Some entry → place + 1 ≡ told.activation
     → told.number ≡ (progress.number + 1) % 2 ^ 64 → entry.committed ≡ false → told.steps ≤ entry.steps
     → MayFollow job opening before told (activation_in entry)
@@ -101,7 +101,7 @@ may_follow job opening before told progress place entry stands found its next op
     }
 
 -- and no other line of that activation may
-pub follows_so : (job : Job) (opening : KeptStore) (before : List Told) (told : Told) (progress : Progress) (place : ℕ) (entry : Entry) (activation : Activation)
+pub follows_so : (job : Job) (opening : KeptStore) (before : List ToldLine) (told : ToldLine) (progress : Progress) (place : ℕ) (entry : Allowance) (activation : Activation)
     → Stands job opening before progress → slice_get progress.entries.items place ≡ Some entry → place + 1 ≡ told.activation
     → MayFollow job opening before told activation
     → (told.number ≡ (progress.number + 1) % 2 ^ 64) × (entry.committed ≡ false) × (told.steps < 2 ^ 64 → told.steps ≤ entry.steps)
@@ -113,13 +113,13 @@ follows_so job opening before told progress place entry activation stands found 
     )
 
 -- a list with one element more, cut at an element: the cut is at its last, or within the others
-last_or_within : (before : List Told) (last : Told) (first : List Told) (told : Told) (behind : List Told)
+last_or_within : (before : List ToldLine) (last : ToldLine) (first : List ToldLine) (told : ToldLine) (behind : List ToldLine)
     → before ++ last ∷ [] ≡ first ++ told ∷ behind
-    → ((before ≡ first) × (last ≡ told)) ⊎ ((rest : List Told) × (before ≡ first ++ told ∷ rest))
+    → ((before ≡ first) × (last ≡ told)) ⊎ ((rest : List ToldLine) × (before ≡ first ++ told ∷ rest))
 last_or_within [] last [] told behind is = inl (refl, cc is)
 last_or_within [] last (other ∷ first) told behind is = absurd (longer first told behind (cc is))
   where
-    longer : (first : List Told) (told : Told) (behind : List Told) → [] ≡ first ++ told ∷ behind → ⊥
+    longer : (first : List ToldLine) (told : ToldLine) (behind : List ToldLine) → [] ≡ first ++ told ∷ behind → ⊥
     longer [] told behind none = cc none
     longer (other ∷ first) told behind none = cc none
 last_or_within (head ∷ before) last [] told behind is = grind (arith, nat_tests)
@@ -132,8 +132,8 @@ last_or_within (head ∷ before) last (other ∷ first) told behind is =
     ]
 
 -- one sound line more
-pub sound_more : (job : Job) (opening : KeptStore) (before : List Told) (told : Told)
-    → AreSound job opening before → IsSound job opening before told → AreSound job opening (before ++ told ∷ [])
+pub sound_more : (job : Job) (opening : KeptStore) (before : List ToldLine) (told : ToldLine)
+    → AreSound job opening before → IsLineSound job opening before told → AreSound job opening (before ++ told ∷ [])
 sound_more job opening before told are sound first other behind is =
     elim (last_or_within before told first other behind is) [
       | inl both ↦ rw (← both.0, ← both.1) sound
@@ -146,39 +146,39 @@ none_sound job opening (other ∷ first) told behind is = absurd (cc is)
 
 -- what the first lines tell, one more
 pub told_more : (report : List CommitLine) (i : ℕ) (line : CommitLine) → i < length report → line ≡ get_or report i line
-    → report_told (take (i + 1) report) ≡ report_told (take i report) ++ told_of line ∷ []
+    → report_told (take (i + 1) report) ≡ report_told (take i report) ++ line_claim line ∷ []
 told_more report i line within is =
-    ap report_told (take_more report i line within ∙ ap (λ (last : CommitLine). take i report ++ last ∷ []) (sym is)) ∙ map-append told_of (take i report) (line ∷ [])
+    ap report_told (take_more report i line within ∙ ap (λ (last : CommitLine). take i report ++ last ∷ []) (sym is)) ∙ map-append line_claim (take i report) (line ∷ [])
 
 -- what all lines tell, by the first, the next and the others
 pub told_all : (report : List CommitLine) (i : ℕ) (line : CommitLine) → i < length report → line ≡ get_or report i line
-    → report_told report ≡ report_told (take i report) ++ told_of line ∷ report_told (drop (i + 1) report)
+    → report_told report ≡ report_told (take i report) ++ line_claim line ∷ report_told (drop (i + 1) report)
 told_all report i line within is =
     let whole : take i report ++ line ∷ drop (i + 1) report ≡ report =
     rw (add-one) (ap (λ rest. take i report ++ rest) (sym (drop-cons report i line within ∙ rw (← is) refl)) ∙ take-append-drop i report) in
-    ap report_told (sym whole) ∙ map-append told_of (take i report) (line ∷ drop (i + 1) report)
+    ap report_told (sym whole) ∙ map-append line_claim (take i report) (line ∷ drop (i + 1) report)
 
 -- a line of another activation more
-pub none_more : (lines : List Told) (told : Told) (activation : ℕ) → ¬ (Contains (map (λ (line : Told). line.activation) lines) activation)
-    → told.activation ≢ activation → ¬ (Contains (map (λ (line : Told). line.activation) (lines ++ told ∷ [])) activation)
+pub none_more : (lines : List ToldLine) (told : ToldLine) (activation : ℕ) → ¬ (Contains (map (λ (line : ToldLine). line.activation) lines) activation)
+    → told.activation ≢ activation → ¬ (Contains (map (λ (line : ToldLine). line.activation) (lines ++ told ∷ [])) activation)
 none_more lines told activation none other has =
-    elim (Contains-append_cases (map (λ (line : Told). line.activation) lines) (told.activation ∷ []) activation (rw map-append at has)) [
+    elim (Contains-append_cases (map (λ (line : ToldLine). line.activation) lines) (told.activation ∷ []) activation (rw map-append at has)) [
       | inl earlier ↦ none earlier
       | inr last ↦ other (last_has told.activation activation last)
     ]
 
 -- the first unsound line is so with others behind
-pub unsound_among : (job : Job) (opening : KeptStore) (lines behind : List Told) (place : ℕ)
+pub unsound_among : (job : Job) (opening : KeptStore) (lines behind : List ToldLine) (place : ℕ)
     → IsFirstUnsound job opening lines place → IsFirstUnsound job opening (lines ++ behind) place
 unsound_among job opening lines behind place unsound = grind (arith, nat_tests, append_assoc unsound.before (unsound.told ∷ unsound.behind) behind)
 
 -- a line whose activation commits as it tells is sound, and has these touches
-pub traced_sound : (job : Job) (opening : KeptStore) (before : List Told) (told : Told) (activation : Activation) (progress : Progress) (directory : Layout)
+pub traced_sound : (job : Job) (opening : KeptStore) (before : List ToldLine) (told : ToldLine) (activation : Activation) (progress : Progress) (directory : Layout)
     → (state : Plain) (list : List Touch) → opening.directory ≡ directory → Stands job opening before progress
     → MayFollow job opening before told activation
     → (before_commit activation told.steps (record { directory = directory; bytes = progress.store }) ≡ Some state)
     × (list ≡ touches activation (record { directory = directory; bytes = progress.store }) told.steps)
-    → told.out ≡ state.out → IsSound job opening before told × AreTouches job opening before told list
+    → told.out ≡ state.out → IsLineSound job opening before told × AreTouches job opening before told list
 traced_sound job opening before told activation progress directory state list same stands follows traced prints = (
   sound_here job opening before told activation progress directory state same stands follows traced.0 prints,
   record {

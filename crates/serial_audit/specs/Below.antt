@@ -8,4 +8,4 @@ pub use Rattle.flat_machine.specs.declared.machine.Program.{Program}
 pub use Rattle.job_text.specs.declared.job.Job.{Job}
 pub use Rattle.lines.specs.Conflicts.{Lines, no_lines}
 pub use Rattle.lines.specs.Directory.{byte_count, Layout}
-pub use Rattle.lines.specs.FlatStore.{FlatStore, IsWhole}
+pub use Rattle.lines.specs.FlatStore.{FlatStore, IsWholeStore}

@@ -1,6 +1,6 @@
 -- A bundle: a first line with four lengths, and behind it so many bytes of a job, of a report, of an opening store and of a closing store.
 use Rattle.std.specs.Prelude.{◌≡◌, ◌≢◌, ℕ, ◌+◌, ◌≤◌, ◌⊎◌, List, [], ◌∷◌, ◌++◌, length, codes, decimal, Option, MatchOption}
-use Rattle.desk.specs.Lines.{spaced}
+use Rattle.desk.specs.ReportLines.{spaced}
 use Rattle.report_text.specs.Words.{AreWordsOf}
 use Rattle.serial_audit.specs.declared.bundle.Bundle.{Bundle}
 use Rattle.serial_audit.specs.declared.bundle.Lengths.{Lengths}
@@ -30,8 +30,8 @@ abbrev pub HasHead : List ℕ → Sizes → List ℕ → Type 0
 HasHead bytes sizes rest = AreAllowed sizes × (bytes ≡ head_text sizes ++ rest)
 
 -- all bytes of the four parts
-abbrev pub size_of : Sizes → ℕ
-size_of sizes = sizes.job + sizes.report + sizes.opening + sizes.closing
+abbrev pub parts_size : Sizes → ℕ
+parts_size sizes = sizes.job + sizes.report + sizes.opening + sizes.closing
 
 -- the places of the parts, one behind the other, from a place on
 abbrev pub bundle_from : ℕ → Sizes → Bundle
@@ -40,7 +40,7 @@ bundle_from begin sizes =
       job = record { from = begin; to = begin + sizes.job };
       report = record { from = begin + sizes.job; to = begin + sizes.job + sizes.report };
       opening = record { from = begin + sizes.job + sizes.report; to = begin + sizes.job + sizes.report + sizes.opening };
-      closing = record { from = begin + sizes.job + sizes.report + sizes.opening; to = begin + size_of sizes };
+      closing = record { from = begin + sizes.job + sizes.report + sizes.opening; to = begin + parts_size sizes };
     }
 
 -- bytes are a bundle whose parts lie so
@@ -48,14 +48,14 @@ pub record IsBundle (bytes : List ℕ) (bundle : Bundle) : Type 0 where
   pub sizes : Sizes
   pub rest : List ℕ
   pub head : HasHead bytes sizes rest
-  pub all : length rest ≡ size_of sizes
+  pub all : length rest ≡ parts_size sizes
   pub parts : bundle ≡ bundle_from (length (head_text sizes)) sizes
 
 -- what is wrong with bytes that are no bundle: 0 where they begin with no first line, and 5 where the bytes behind it aren't as many as the lengths say
 abbrev pub IsWrongAt : List ℕ → ℕ → Type 0
 IsWrongAt bytes part =
     ((part ≡ 0) × ((sizes : Sizes) (rest : List ℕ) → ¬ (HasHead bytes sizes rest)))
-    ⊎ ((part ≡ 5) × ((sizes : Sizes) × (rest : List ℕ) × HasHead bytes sizes rest × (length rest ≢ size_of sizes)))
+    ⊎ ((part ≡ 5) × ((sizes : Sizes) × (rest : List ℕ) × HasHead bytes sizes rest × (length rest ≢ parts_size sizes)))
 
 -- bytes are a bundle in one way at most, and of a bundle no part is wrong
 pub record HasOneSplitting : Type 0 where
@@ -73,4 +73,4 @@ TellsSizes line told = (sizes : Sizes) → AreAllowed sizes → AreWordsOf line 
 -- parts of these sizes, one behind the other from a place on, if they end at this end
 abbrev pub LieFrom : (begin end : ℕ) → Sizes → Option Bundle → Type 0
 LieFrom begin end sizes found =
-    MatchOption found (begin + size_of sizes ≢ end) (λ bundle. (begin + size_of sizes ≡ end) × (bundle ≡ bundle_from begin sizes))
+    MatchOption found (begin + parts_size sizes ≢ end) (λ bundle. (begin + parts_size sizes ≡ end) × (bundle ≡ bundle_from begin sizes))

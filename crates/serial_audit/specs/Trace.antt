@@ -1,16 +1,16 @@
 -- The lines that an activation touches as its serial run does.
 use Rattle.std.specs.Prelude.{◌≡◌, ℕ, ◌-◌, Bool, false, true, List, [], ◌∷◌, ◌++◌, map, Some, Result, Ok, Err, Option, None, Vec, ◌<◌, MatchOption, length, take}
-use Rattle.serial_audit.specs.Below.{Activation, Contains, flat_map, FlatStore, Job, Lines, numbered, range_with_len, serial, before_commit, IsWhole, Plain, no_lines, Layout, Program}
+use Rattle.serial_audit.specs.Below.{Activation, Contains, flat_map, FlatStore, Job, Lines, numbered, range_with_len, serial, before_commit, IsWholeStore, Plain, no_lines, Layout, Program}
 use Rattle.flat_machine.specs.Due.{touched_next}
 use Rattle.serial_audit.specs.declared.auditing.KeptStore.{KeptStore}
-use Rattle.serial_audit.specs.Audit.{AreSound, IsFirstUnsound, Told, activations_of, flat_of, pair_of, report_told, IsSound, told_of}
+use Rattle.serial_audit.specs.Audit.{AreSound, IsFirstUnsound, ToldLine, activations_of, flat_of, pair_of, report_told, IsLineSound, line_claim}
 use Rattle.serial_audit.specs.declared.answer.Trace.{Trace}
 use Rattle.serial_audit.specs.declared.answer.TraceFault.{TraceFault}
 use Rattle.serial_audit.specs.declared.answer.TraceFault.TheVariants.{Memory, NoCommit, NotSerial}
 use Rattle.serial_audit.specs.declared.touch.Touch.{Touch}
 use Rattle.flat_machine.specs.Agreement.{AgreeOn, AgreeBut}
 use Rattle.serial_audit.specs.declared.touch.Stretch.{Stretch}
-use Rattle.report_text.specs.declared.line.CommitLine.{CommitLine}
+use Rattle.report_text.specs.declared.report_line.CommitLine.{CommitLine}
 use Rattle.std.specs.declared.alloc.Global.{Global}
 use Rattle.flat_machine.specs.Touched.{lines_at, touched}
 use Rattle.serial_audit.specs.declared.auditing.Progress.{Progress}
@@ -18,14 +18,14 @@ use Rattle.flat_machine.specs.Row.{located}
 use Rattle.serial_audit.specs.Progress.{Stands}
 
 -- lines that are read, or written
-abbrev pub lines_by : Bool → List ℕ → Lines
-lines_by false lines = record { reads = lines; writes = [] }
-lines_by true lines = record { reads = []; writes = lines }
+abbrev pub lines_if : Bool → List ℕ → Lines
+lines_if false lines = record { reads = lines; writes = [] }
+lines_if true lines = record { reads = []; writes = lines }
 
 -- the lines of a stretch
-abbrev pub lines_of : Option Stretch → Lines
-lines_of None = no_lines
-lines_of (Some stretch) = lines_by stretch.store (range_with_len stretch.first stretch.count)
+abbrev pub stretch_lines : Option Stretch → Lines
+stretch_lines None = no_lines
+stretch_lines (Some stretch) = lines_if stretch.store (range_with_len stretch.first stretch.count)
 
 -- a line that a step reads, or writes
 abbrev pub touch_at : ℕ → Bool → ℕ → Touch
@@ -43,7 +43,7 @@ touches activation store steps =
     (range_with_len 1 steps)
 
 -- these are the touches of a commit line's activation, on the store that the commit lines before it leave one after another
-pub record AreTouches (job : Job) (opening : KeptStore) (before : List Told) (told : Told) (list : List Touch) : Type 0 where
+pub record AreTouches (job : Job) (opening : KeptStore) (before : List ToldLine) (told : ToldLine) (list : List Touch) : Type 0 where
   pub activation : Activation
   pub begun : numbered (activations_of job) told.activation ≡ Some activation
   pub left : FlatStore
@@ -51,28 +51,28 @@ pub record AreTouches (job : Job) (opening : KeptStore) (before : List Told) (to
   pub list_is : list ≡ touches activation left told.steps
 
 -- the commit lines before the first one of an activation, and that one
-pub record IsFirstOf (lines : List Told) (activation : ℕ) (before : List Told) (told : Told) : Type 0 where
-  pub behind : List Told
+pub record IsFirstOf (lines : List ToldLine) (activation : ℕ) (before : List ToldLine) (told : ToldLine) : Type 0 where
+  pub behind : List ToldLine
   pub lines_are : lines ≡ before ++ told ∷ behind
   pub is_its : told.activation ≡ activation
   pub first : ¬ (Contains (map (λ line. line.activation) before) activation)
 
 -- the trace of a commit line: it and those before it are sound, and these are its steps and its touches
-pub record IsTrace (job : Job) (opening : KeptStore) (before : List Told) (told : Told) (trace : Trace) : Type 0 where
+pub record IsTrace (job : Job) (opening : KeptStore) (before : List ToldLine) (told : ToldLine) (trace : Trace) : Type 0 where
   pub sound : AreSound job opening (before ++ told ∷ [])
   pub steps : trace.steps ≡ told.steps
   pub touches : AreTouches job opening before told trace.touches.items
 
 -- The answer of a trace: that of the activation's first commit line; or that it has none; or, up to that line and with it, the first line
 -- that isn't sound; or that there was no memory.
-abbrev pub IsAnswer : Job → KeptStore → List Told → ℕ → Result Trace TraceFault → Type 0
-IsAnswer job opening lines activation (Ok trace) =
-    (before : List Told) × (told : Told) × IsFirstOf lines activation before told × IsTrace job opening before told trace
-IsAnswer job opening lines activation (Err NoCommit) = ¬ (Contains (map (λ line. line.activation) lines) activation)
-IsAnswer job opening lines activation (Err (NotSerial place)) =
-    (before : List Told) × (told : Told) × IsFirstOf lines activation before told
+abbrev pub IsTraceAnswer : Job → KeptStore → List ToldLine → ℕ → Result Trace TraceFault → Type 0
+IsTraceAnswer job opening lines activation (Ok trace) =
+    (before : List ToldLine) × (told : ToldLine) × IsFirstOf lines activation before told × IsTrace job opening before told trace
+IsTraceAnswer job opening lines activation (Err NoCommit) = ¬ (Contains (map (λ line. line.activation) lines) activation)
+IsTraceAnswer job opening lines activation (Err (NotSerial place)) =
+    (before : List ToldLine) × (told : ToldLine) × IsFirstOf lines activation before told
     × IsFirstUnsound job opening (before ++ told ∷ []) place
-IsAnswer job opening lines activation (Err Memory) = Unit {0}
+IsTraceAnswer job opening lines activation (Err Memory) = Unit {0}
 
 -- the lines of touches
 abbrev pub lines_touched : List Touch → List ℕ
@@ -84,7 +84,7 @@ lines_touched list = map (λ touch. touch.line) list
 abbrev pub TraceIsEnough : Type 0
 TraceIsEnough =
     (activation : Activation) (steps : ℕ) (store other : FlatStore) (state : Plain)
-    → IsWhole store → IsWhole other → other.directory ≡ store.directory
+    → IsWholeStore store → IsWholeStore other → other.directory ≡ store.directory
     → before_commit activation steps store ≡ Some state
     → AgreeOn store.directory (lines_touched (touches activation store steps)) store.bytes other.bytes
     → (bytes : List ℕ)
@@ -112,19 +112,19 @@ IsTracedRun program args steps directory store found =
 -- these are the lines of an access to so many bytes at an effective address
 abbrev pub AreLinesAt : Program → Layout → (address bytes : ℕ) → (store : Bool) → Lines → Type 0
 AreLinesAt program directory address bytes store lines =
-    lines_by store (lines_at directory (located program directory address bytes store) bytes) ≡ lines
+    lines_if store (lines_at directory (located program directory address bytes store) bytes) ≡ lines
 
 -- no commit line is of an activation
 abbrev pub CommitsNever : List CommitLine → ℕ → Type 0
-CommitsNever report activation = ¬ (Contains (map (λ (line : Told). line.activation) (report_told report)) activation)
+CommitsNever report activation = ¬ (Contains (map (λ (line : ToldLine). line.activation) (report_told report)) activation)
 
 -- the first commit line of an activation, behind so many others
 abbrev pub IsFirstAt : List CommitLine → (activation place : ℕ) → CommitLine → Type 0
 IsFirstAt report activation place commit =
-    (place < length report) × IsFirstOf (report_told report) activation (report_told (take place report)) (told_of commit)
+    (place < length report) × IsFirstOf (report_told report) activation (report_told (take place report)) (line_claim commit)
 
 -- the touches of a commit line exactly where it is sound behind those at which a check stands
-abbrev pub Traces : Layout → Progress → Told → Option (Vec Touch Global) → Type 0
+abbrev pub Traces : Layout → Progress → ToldLine → Option (Vec Touch Global) → Type 0
 Traces directory progress told found =
-    (job : Job) (opening : KeptStore) (before : List Told) → opening.directory ≡ directory → Stands job opening before progress
-    → MatchOption found (¬ (IsSound job opening before told)) (λ touches. IsSound job opening before told × AreTouches job opening before told touches.items)
+    (job : Job) (opening : KeptStore) (before : List ToldLine) → opening.directory ≡ directory → Stands job opening before progress
+    → MatchOption found (¬ (IsLineSound job opening before told)) (λ touches. IsLineSound job opening before told × AreTouches job opening before told touches.items)

@@ -1,11 +1,11 @@
 ghost use Rattle.std.specs.Prelude.{◌≡◌, ◌+◌, ◌-◌, ◌<◌, ◌≤◌, ◌^◌, ◌↔◌, IsTrue, List, [], length, IfOk, IfSome, MatchOption, MatchResult};
 ghost use Rattle.serial_audit.specs.Below.{Activation, byte_count, Job};
 ghost use Rattle.serial_audit.specs.declared.auditing.KeptStore.{KeptStore};
-ghost use Rattle.serial_audit.specs.Audit.{AreSound, IsFirstUnsound, IsVerdict, Told, report_told, told_of};
-ghost use Rattle.serial_audit.specs.Progress.{IsEntryOf, activation_in, IsTaken, MayFollow, Stands, HaveSameSegments, IsEntryFor, IsAt, TakesLine, IfFound, IsProgress, IsWithin};
+ghost use Rattle.serial_audit.specs.Audit.{AreSound, IsFirstUnsound, IsVerdict, ToldLine, report_told, line_claim};
+ghost use Rattle.serial_audit.specs.Progress.{IsAllowanceOf, activation_in, IsTaken, MayFollow, Stands, HaveSameSegments, IsEntryFor, IsAt, ChecksLine, IfFound, IsProgress, IsWithin};
 
-use super::index::{Entry, index_of, mark, place_among};
-use super::replay::replayed;
+use super::index::{Allowance, index_of, mark, place_among};
+use super::run_again::replayed;
 use job_text::Job;
 use lines::{Directory, OwnedList};
 use report_text::CommitLine;
@@ -93,7 +93,7 @@ pub fn audit_lines<'j>(
 pub struct Progress<'j> {
     pub number: u64,
     pub commits: u32,
-    pub entries: Vec<Entry<'j>>,
+    pub entries: Vec<Allowance<'j>>,
     pub store: OwnedList<u8>,
 }
 
@@ -123,7 +123,7 @@ impl<'j> Progress<'j> {
     ) -> Result<Option<Self>, AllocError>
         requires whole { length self.store ≡ byte_count directory.now }
         requires few { self.commits < 2 ^ 32 - 1 }
-        ensures taken { IfOk result (TakesLine directory.now self.entry (told_of commit.now)) }
+        ensures taken { IfOk result (ChecksLine directory.now self.entry (line_claim commit.now)) }
         ensures one { IfFound result (λ progress. progress.commits ≡ self.entry.commits + 1) }
         ensures whole { IfFound result (λ progress. length progress.store ≡ byte_count directory.now) }
     {
@@ -154,7 +154,7 @@ impl<'j> Progress<'j> {
     /// The entry of a commit line's activation, if the line may be the next one: it has the number that follows, is the first of
     /// its activation, and tells no more steps than the activation's turns allow; none too where the job begins no such
     /// activation (docs/MODEL.md, "An audit").
-    pub fn entry_for(&self, commit: &CommitLine) -> Option<Entry<'j>>
+    pub fn entry_for(&self, commit: &CommitLine) -> Option<Allowance<'j>>
         ensures { IsEntryFor self.now commit.now result }
     {
         let place = match place_among(self.entries.len(), commit.activation) {

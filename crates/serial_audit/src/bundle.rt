@@ -1,6 +1,6 @@
 ghost use Rattle.std.specs.Prelude.{◌≡◌, ◌≢◌, ◌+◌, ◌≤◌, ◌<◌, ◌^◌, ◌↔◌, IsTrue, ℕ, List, [], ◌∷◌, length, codes, decimal, MatchOption, MatchResult};
 ghost use Rattle.std.specs.List.{join_with_byte};
-ghost use Rattle.serial_audit.specs.Bundle.{AreAllowed, IsBundle, IsWrongAt, Sizes, bundle_from, head_text, head_words, size_of, sizes_of, TellsSizes, LieFrom};
+ghost use Rattle.serial_audit.specs.Bundle.{AreAllowed, IsBundle, IsWrongAt, Sizes, bundle_from, head_text, head_words, parts_size, sizes_of, TellsSizes, LieFrom};
 
 use report_text::{behind, first_number, place_of};
 use text_line::TextLine;

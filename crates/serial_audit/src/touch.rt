@@ -3,7 +3,7 @@ ghost use Rattle.std.specs.Prelude.{◌≡◌, ◌≢◌, ◌+◌, ◌≤◌, �
 ghost use Rattle.flat_machine.specs.Access.{IsAccess};
 ghost use Rattle.flat_machine.specs.Row.{located};
 ghost use Rattle.flat_machine.specs.Touched.{lines_at, lines_of_act, touched};
-ghost use Rattle.serial_audit.specs.Trace.{lines_by, lines_of, touches_of_step, AreLinesAt, AddsTouches};
+ghost use Rattle.serial_audit.specs.Trace.{lines_if, stretch_lines, touches_of_step, AreLinesAt, AddsTouches};
 
 use flat_machine::{Act, Located, Pending, Plain, Program, locate, start_row};
 use lines::Directory;
@@ -29,7 +29,7 @@ impl Stretch {
     /// Tells each of the lines as one that a step touches.
     pub fn tell(self, step: u64, touches: &mut Vec<Touch>) -> Result<(), AllocError>
         requires { self.first + self.count < 2 ^ 32 }
-        ensures { OnOk result (AddsTouches step (lines_of (Some self)) touches.old touches.new) }
+        ensures { OnOk result (AddsTouches step (stretch_lines (Some self)) touches.old touches.new) }
     {
         for line in self.first..self.first + self.count {
             touches.push(Touch {
@@ -45,7 +45,7 @@ impl Stretch {
 /// The lines that the next row of a program touches, if it touches some.
 pub(super) fn next_lines(program: &Program, directory: &Directory, plain: &Plain) -> Option<Stretch>
     requires { length plain.now.private ≡ 16384 }
-    ensures lines { touched program.now directory.now plain.now ≡ lines_of result }
+    ensures lines { touched program.now directory.now plain.now ≡ stretch_lines result }
     ensures small { IfSome result (λ stretch. stretch.first + stretch.count < 2 ^ 32) }
 {
     let mut regs = plain.regs;
@@ -63,7 +63,7 @@ pub(super) fn next_lines(program: &Program, directory: &Directory, plain: &Plain
 /// The lines of what a row does.
 fn lines_of_act(program: &Program, directory: &Directory, act: Act) -> Option<Stretch>
     requires { IsAccess act }
-    ensures lines { lines_of_act program.now directory.now act ≡ lines_of result }
+    ensures lines { lines_of_act program.now directory.now act ≡ stretch_lines result }
     ensures small { IfSome result (λ stretch. stretch.first + stretch.count < 2 ^ 32) }
 {
     match act {
@@ -91,7 +91,7 @@ fn access(
     store: bool,
 ) -> Option<Stretch>
     requires { 0 < bytes }
-    ensures lines { AreLinesAt program.now directory.now address bytes store (lines_of result) }
+    ensures lines { AreLinesAt program.now directory.now address bytes store (stretch_lines result) }
     ensures small { IfSome result (λ stretch. stretch.first + stretch.count < 2 ^ 32) }
 {
     let Located::Shared(at) = locate(program, directory, address, bytes, store) else {

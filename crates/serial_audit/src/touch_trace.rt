@@ -1,14 +1,14 @@
 ghost use Rattle.std.specs.Prelude.{◌≡◌, ◌-◌, ◌<◌, ◌^◌, List, length, map, take, IfOk, MatchOption};
 ghost use Rattle.serial_audit.specs.Below.{byte_count, Contains, Job};
 ghost use Rattle.serial_audit.specs.declared.auditing.KeptStore.{KeptStore};
-ghost use Rattle.serial_audit.specs.Audit.{IsSound, Told, report_told, told_of};
+ghost use Rattle.serial_audit.specs.Audit.{IsLineSound, ToldLine, report_told, line_claim};
 ghost use Rattle.serial_audit.specs.Progress.{Stands};
-ghost use Rattle.serial_audit.specs.Trace.{AreTouches, IsAnswer, IsFirstOf, CommitsNever, Traces, IsFirstAt};
+ghost use Rattle.serial_audit.specs.Trace.{AreTouches, IsTraceAnswer, IsFirstOf, CommitsNever, Traces, IsFirstAt};
 
 use super::answer::{Trace, TraceFault};
 use super::auditing::{KeptStore, Progress, audit_lines};
-use super::running::run_traced;
 use super::touch::Touch;
+use super::traced_run::run_traced;
 use job_text::Job;
 use lines::Directory;
 use report_text::CommitLine;
@@ -31,7 +31,7 @@ pub fn trace(
 ) -> Result<Trace, TraceFault>
     requires store { length opening.now.store.items ≡ byte_count opening.now.directory }
     requires few { length report.now < 2 ^ 32 - 1 }
-    ensures { IsAnswer job.now opening.now (report_told report.now) activation result }
+    ensures { IsTraceAnswer job.now opening.now (report_told report.now) activation result }
 {
     let (before, commit) = match first_commit(report, activation) {
         Some(found) => found,
@@ -71,7 +71,7 @@ fn touches_of(
     commit: &CommitLine,
 ) -> Result<Option<Vec<Touch>>, AllocError>
     requires { length progress.store ≡ byte_count directory.now }
-    ensures { IfOk result (Traces directory.now progress.entry (told_of commit.now)) }
+    ensures { IfOk result (Traces directory.now progress.entry (line_claim commit.now)) }
 {
     let entry = match progress.entry_for(commit) {
         Some(entry) => entry,

@@ -1,5 +1,5 @@
 -- The lines of a record of a text, and the records that are due.
-use Rattle.standby.proofs.Common.{◌≡◌, ℕ, zero, suc, ◌+◌, ◌-◌, ◌*◌, ◌/◌, ◌<◌, ◌≤◌, List, [], ◌∷◌, length, take, drop, get_or, refl, ap, arith, All, drop-drop, PageSize, RecordLine, record_bytes, entry_bytes, ShipLine, AreLines, parted, told, nat_tests, map, sym, subst, ◌∙◌, Option, option_map, drop-map, length-map, take_rest, All-drop, All-map, slice_get-map, line_count, Header, most_lines, line_bytes, IsAlike, IsFirstLong, IsLongAt, IsFitting, IsPacked, IsShip, content_of, record_of, ShipRecord, take-map}
+use Rattle.standby.proofs.Common.{◌≡◌, ℕ, zero, suc, ◌+◌, ◌-◌, ◌*◌, ◌/◌, ◌<◌, ◌≤◌, List, [], ◌∷◌, length, take, drop, get_or, refl, ap, arith, All, drop-drop, PageSize, RecordLine, record_bytes, entry_bytes, ShipLine, AreLines, parted, told, nat_tests, map, sym, subst, ◌∙◌, Option, option_map, drop-map, length-map, take_rest, All-drop, All-map, slice_get-map, line_count, Header, most_lines, line_bytes, IsAlike, IsFirstLong, IsLongAt, IsFitting, IsPacked, IsShip, ship_content, record_of, ShipRecord, take-map}
 use Rattle.std.proofs.Math.ListN.{get_or-map}
 use Rattle.standby.specs.declared.text.Ship.{Ship}
 use Rattle.std.proofs.lemmas.List.Elements.{All-cons}
@@ -51,7 +51,7 @@ fits_all : (header : Header) (bytes lines : ℕ) (records : List ShipRecord) →
     → All (λ kept. AreLines bytes lines 0 (record_of bytes kept)) records → All (λ kept. length kept.lines.items ≤ most_lines header) records → All (IsFitting header) records
 fits_all header bytes lines records same many packed are few k d lt = grind (arith, nat_tests, many)
 
-module _ (ship : Ship) (header : Header) (is : IsShip ship) (alike : IsAlike header (content_of ship)) (passed : ℕ) (items slice : List ShipRecord) (items_are : items ≡ ship.records.items) (slice_is : slice ≡ take (length items - passed) (drop passed items)) where
+module _ (ship : Ship) (header : Header) (is : IsShip ship) (alike : IsAlike header (ship_content ship)) (passed : ℕ) (items slice : List ShipRecord) (items_are : items ≡ ship.records.items) (slice_is : slice ≡ take (length items - passed) (drop passed items)) where
   slice_rest : slice ≡ drop passed ship.records.items
   slice_rest = slice_is ∙ take_rest items passed ∙ ap (λ (these : List ShipRecord). drop passed these) items_are
 

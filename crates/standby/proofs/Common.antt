@@ -10,7 +10,7 @@ pub use Rattle.std.proofs.lemmas.Option.{IfSome_then, get_or_from_slice_get, sli
 pub use Rattle.std.specs.List.{AllByRecursion, prefix_len}
 pub use Rattle.std.specs.Option.{option_map}
 pub use Rattle.std.specs.Prelude.{All, Err, IfSome, MatchOption, None, Ok, OnErr, OnOk, Option, Result, Some, if◌then◌else◌, slice_get, slice_index, unwrap_or, fold}
-pub use Rattle.standby.specs.Below.{AreTold, Elapses, Failed, FlatStore, Ghosts, IsShown, KeptStore, Prints, Shows, Status, TracksStore, call, line_bytes, line_count, number_of, with_begun}
+pub use Rattle.standby.specs.Below.{AreTold, Elapses, Failed, FlatStore, Ghosts, IsShown, StoreView, Prints, Shows, Status, TracksStore, call, line_bytes, line_count, store_number, with_begun}
 pub use Rattle.hex.proofs.HexLemmas.{decode_of-encode_lower, length-encode_with}
 pub use Rattle.hex.specs.Hex.{decode_of, encode_lower, lower_digits}
 pub use Rattle.lines.specs.Directory.{Layout}
@@ -21,7 +21,7 @@ pub use Rattle.outside.proofs.Runs.{asks_none, asks_on, elapses-trans, leaves_on
 pub use Rattle.outside.proofs.Shows.{shows_asks, shows_none, shows_on, shows_puts}
 pub use Rattle.outside.specs.Durable.{IsSure}
 pub use Rattle.outside.specs.Runs.{AsksAndPuts, CallsDisk, FewerLater, Leaves, OnlyAsks, held_of}
-pub use Rattle.store.specs.Kept.{KeptBank, begun_of, record_bytes_of, with_line, with_record}
+pub use Rattle.store.specs.Kept.{BankView, begun_of, record_bytes_of, with_line, with_record}
 pub use Rattle.store.specs.Records.{IsCounted, IsRecordAt, area_bytes}
 pub use Rattle.store.specs.Tracks.{IsEither}
 pub use Rattle.store.specs.declared.find.Record.{Record}
@@ -31,18 +31,18 @@ pub use Rattle.store_format.specs.Stands.{Standing, Stands, home_of, one_more}
 unfoldable pub use Rattle.store_format.specs.Stands.{stands}
 pub use Rattle.text_line.proofs.Bytes.{each_byte, empty_is, some_is}
 pub use Rattle.text_line.proofs.Words.{IsWord, number_word, same_number, word_cut}
-pub use Rattle.standby.specs.State.{bank_begun, bank_behind, bank_with, IsFirstLong, IsLongAt, behind, due, laid, laid_by, IsAmong, AllFit}
-pub use Rattle.standby.specs.Followed.{StandWhole, BreaksAt, EndsWith, Follows, IsAlike, IsAtNumber, IsStopped, Keeps, OnlyGoesOn, SoFar, broken, followed_text, kept_text, well, IsBegun, IsFitting, IsStep, Steps, followed_of, over, put_of, FoundOf}
-pub use Rattle.standby.specs.Puts.{Puts, SeesPart}
-pub use Rattle.standby.specs.Read.{AreWhole, GoesOn, IsFirstBad, IsRead, IsReadFault, Tail, feeds}
-pub use Rattle.standby.specs.Shipped.{HasBytes, PrintsBy, shipped}
-pub use Rattle.standby.specs.Text.{AreLines, Content, HoldsOne, IsContent, IsPacked, IsShip, ShipLine, content_of, end_line, head_line, kept_line, later, line_line, lines_text, next, parted, record_line, record_of, record_text, records_text, text_of, told}
+pub use Rattle.standby.specs.State.{bank_begun, bank_behind, bank_with, IsFirstLong, IsLongAt, behind, due, ship_laid, laid_by, IsTextNumber, AllFit}
+pub use Rattle.standby.specs.Followed.{StandWhole, BreaksAt, EndsWith, Follows, IsAlike, IsAtNumber, FollowStopped, FollowKeeps, OnlyGoesOn, SoFar, broken, followed_text, kept_text, well, IsBegun, IsFitting, IsLeftBetween, Steps, followed_of, over, put_result, FoundOf}
+pub use Rattle.standby.specs.TextPut.{PutsAtOnce, SeesPart}
+pub use Rattle.standby.specs.Read.{AreWhole, IsTextInTwo, IsFirstBad, AreFirstLines, IsReadFault, Tail, feeds}
+pub use Rattle.standby.specs.Shipped.{HasBytes, ShipPrintsBy, shipped}
+pub use Rattle.standby.specs.Text.{AreLines, ShipContent, HoldsOne, IsContent, IsPacked, IsShip, ShipLine, ship_content, closing_line, head_line, kept_line, later, line_line, lines_text, next, parted, record_line, record_of, record_text, records_text, ship_text, told}
 pub use Rattle.standby.specs.declared.following.Followed.{Followed}
 pub use Rattle.standby.specs.declared.following.Followed.TheVariants.{DiskFault, Done, Geometry, Long, NotKept, PutFault}
 pub use Rattle.standby.specs.declared.shipping.Shipped.{Shipped}
 pub use Rattle.standby.specs.declared.text.ShipRecord.{ShipRecord}
 pub use Rattle.call_status.specs.Statuses.{status_of_open}
-pub use Rattle.store.specs.declared.fault.OpenFault.{OpenFault}
+pub use Rattle.store.specs.declared.open_fault.OpenFault.{OpenFault}
 pub use Rattle.store.specs.Faults.{IsStoreOpenFault}
 pub use Rattle.store.proofs.ShowLemmas.{shown_stands, shown_store, shows_begun}
 pub use Rattle.std.proofs.Math.ListN.{replicate}

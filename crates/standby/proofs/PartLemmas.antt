@@ -1,5 +1,5 @@
 -- The parts of a line of a ship text: where each ends, and that none holds a line feed.
-use Rattle.standby.proofs.Common.{All, slice_index, AllByRecursion, prefix_len, lt-ltb, nat_tests, drop_at, take_at, All-get_or, recursion_from_All, AllPass-from_list_all, sum_by-append, decode_of-encode_lower, IsWord, number_word, word_cut, feeds, end_line, head_line, line_line, record_line, each_byte, ◌≡◌, ℕ, ◌+◌, ◌/◌, ◌%◌, ◌^◌, ◌<◌, ◌≤◌, ◌==◌, nat_lt, not, true, cond, List, [], ◌∷◌, ◌++◌, length, codes, decimal, position, Some, None, Ok, take, drop, refl, ◌∙◌, ap, append_assoc, length-append, arith, encode_lower, lower_digits, decode_of, ltb-true, eq-eqb, ne_eqb}
+use Rattle.standby.proofs.Common.{All, slice_index, AllByRecursion, prefix_len, lt-ltb, nat_tests, drop_at, take_at, All-get_or, recursion_from_All, AllPass-from_list_all, sum_by-append, decode_of-encode_lower, IsWord, number_word, word_cut, feeds, closing_line, head_line, line_line, record_line, each_byte, ◌≡◌, ℕ, ◌+◌, ◌/◌, ◌%◌, ◌^◌, ◌<◌, ◌≤◌, ◌==◌, nat_lt, not, true, cond, List, [], ◌∷◌, ◌++◌, length, codes, decimal, position, Some, None, Ok, take, drop, refl, ◌∙◌, ap, append_assoc, length-append, arith, encode_lower, lower_digits, decode_of, ltb-true, eq-eqb, ne_eqb}
 use Rattle.hex.specs.Hex.{encode_with}
 use Rattle.std.proofs.lemmas.List.Quantifiers.{position-Some}
 use Rattle.standby.proofs.ShipLemmas.{split_at}
@@ -52,7 +52,7 @@ both a b one two = omega (arith, feeds_append a b, one, two)
 three : (a b c : List ℕ) → feeds a ≡ 0 → feeds b ≡ 0 → feeds c ≡ 0 → feeds ((a ++ b) ++ c) ≡ 0
 three a b c one two more = omega (arith, feeds_append (a ++ b) c, feeds_append a b, one, two, more)
 
-pub end_is_line : (n : ℕ) → n < 2 ^ 64 → IsLine (end_line n)
+pub end_is_line : (n : ℕ) → n < 2 ^ 64 → IsLine (closing_line n)
 end_is_line n small = record { body = codes "end " ++ decimal n; is = refl; plain = both (codes "end ") (decimal n) refl (word_plain (decimal n) (number_word n small)) }
 
 pub record_is_line : (n count : ℕ) → n < 2 ^ 64 → count < 2 ^ 64 → IsLine (record_line n count)
@@ -85,7 +85,7 @@ record_parts n count rest = simp append_assoc refl
 pub line_parts : (n : ℕ) (bytes rest : List ℕ) → line_line n bytes ++ rest ≡ codes "line " ++ (decimal n ++ 32 ∷ (encode_lower bytes ++ 10 ∷ rest))
 line_parts n bytes rest = simp append_assoc refl
 
-pub end_parts : (n : ℕ) (rest : List ℕ) → end_line n ++ rest ≡ codes "end " ++ (decimal n ++ 10 ∷ rest)
+pub end_parts : (n : ℕ) (rest : List ℕ) → closing_line n ++ rest ≡ codes "end " ++ (decimal n ++ 10 ∷ rest)
 end_parts n rest = simp append_assoc refl
 
 pub line_front : (n : ℕ) (rest : List ℕ) → ((codes "line" ++ 32 ∷ decimal n) ++ 32 ∷ []) ++ rest ≡ codes "line " ++ (decimal n ++ 32 ∷ rest)

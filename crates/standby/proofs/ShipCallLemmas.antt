@@ -1,10 +1,10 @@
 -- What shipping the records of a store did.
-use Rattle.standby.proofs.Common.{◌≡◌, ◌⊎◌, ◌<◌, ◌≤◌, ℕ, List, [], inl, inr, ⊎_elim, refl, sym, ◌∙◌, ap, subst, Option, IsSome, IsTrue, Result, Ok, Err, unwrap_or, Ghosts, AreTold, FewerLater, OnlyAsks, held_of, AsksAndPuts, OpenFault, KeptStore, number_of, IsStoreOpenFault, IsShown, Shows, TracksStore, behind, IsContent, text_of, leaves_on, call, status_of_open, Status, cases_lt, RecordLine, Shipped, leaves_held, shows_asks, shows_on, arith, nat_tests}
+use Rattle.standby.proofs.Common.{◌≡◌, ◌⊎◌, ◌<◌, ◌≤◌, ℕ, List, [], inl, inr, ⊎_elim, refl, sym, ◌∙◌, ap, subst, Option, IsSome, IsTrue, Result, Ok, Err, unwrap_or, Ghosts, AreTold, FewerLater, OnlyAsks, held_of, AsksAndPuts, OpenFault, StoreView, store_number, IsStoreOpenFault, IsShown, Shows, TracksStore, behind, IsContent, ship_text, leaves_on, call, status_of_open, Status, cases_lt, RecordLine, Shipped, leaves_held, shows_asks, shows_on, arith, nat_tests}
 use Rattle.standby.proofs.PutLemmas.{PrintedNow, prints_by, quiet_by, quiet_is}
-use Rattle.standby.specs.Shipped.{PrintsBy as PutsBy, ShipsBy, shipped}
+use Rattle.standby.specs.Shipped.{ShipPrintsBy as PutsBy, ShipsBy, shipped}
 use Rattle.standby.proofs.ShipLemmas.{still_shown}
 use Rattle.standby.specs.ShipCalled.{ShippedBy, ShippedFrom}
-use Rattle.store.specs.declared.fault.OpenFault.TheVariants as open_fault
+use Rattle.store.specs.declared.open_fault.OpenFault.TheVariants as open_fault
 use Rattle.standby.specs.declared.shipping.Shipped.TheVariants as how
 use Rattle.call_status.specs.declared.status.Status.TheVariants as status
 
@@ -21,7 +21,7 @@ module _ {W : Type 0} (G : Ghosts W) (printed_now : PrintedNow G) (from : ℕ) (
       by : (fault : OpenFault) → IsStoreOpenFault G before mid fault → ShippedBy G from before mid (status_of_open fault)
       by fault why = grind (arith, nat_tests)
 
-  module _ (fewer_later : FewerLater G) (mid after : W) (asks : OnlyAsks G before mid) (store : KeptStore) (shows : IsSome (G.held before) → Shows (held_of G before) store)
+  module _ (fewer_later : FewerLater G) (mid after : W) (asks : OnlyAsks G before mid) (store : StoreView) (shows : IsSome (G.held before) → Shows (held_of G before) store)
       (tracks : IsTrue (G.is_honest before) → IsSome (G.held before) → TracksStore G store mid) (only : AsksAndPuts G mid after) where
     -- what a crash leaves once something is printed was sure when the store had opened
     ended : (now : Status) → ((now ≡ status.DiskFault → ⊥) → G.disk_faults after ≡ G.disk_faults before) → ShippedBy G from before after now → ShippedFrom G from (call before after [] now)
@@ -37,7 +37,7 @@ module _ {W : Type 0} (G : Ghosts W) (printed_now : PrintedNow G) (from : ℕ) (
     }
 
     abbrev text : List (List RecordLine) → List ℕ
-    text records = text_of (shipped store records from)
+    text records = ship_text (shipped store records from)
 
     module _ (told : IsSome (G.held before)) where
       still : (now : IsShown G store mid) × (now.shows.read.records ≡ (shows told).read.records)
@@ -62,6 +62,6 @@ module _ {W : Type 0} (G : Ghosts W) (printed_now : PrintedNow G) (from : ℕ) (
     shipped_short kept ships = ended status.DiskFault (λ other. absurd (other refl))
         (inr (λ told. record { store = store; shows = shows told; kept = kept; printed = from_before told (Err how.DiskFault) (ships (still told).0); times = λ is. absurd (cc); content = λ is. absurd (cc) }))
 
-    pub none_kept : G.disk_faults after ≡ G.disk_faults before → (base number : ℕ) → after ≡ mid → base ≡ store.bank.base → number ≡ number_of store → store.bank.count < behind store.bank.base from → ShippedFrom G from (call before after [] (status.NotKept base number))
+    pub none_kept : G.disk_faults after ≡ G.disk_faults before → (base number : ℕ) → after ≡ mid → base ≡ store.bank.base → number ≡ store_number store → store.bank.count < behind store.bank.base from → ShippedFrom G from (call before after [] (status.NotKept base number))
     none_kept calm base number same base_is number_is behind_all = ended (status.NotKept base number) (λ other. calm)
         (subst (λ (now : W). OnlyAsks G before now) (sym same) asks, λ told. record { store = store; shows = shows told; base_is = base_is; number_is = number_is; behind_all = behind_all })

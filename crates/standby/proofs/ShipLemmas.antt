@@ -1,16 +1,16 @@
 -- The records of a bank, as they are shipped.
-use Rattle.standby.proofs.Common.{Some, slice_get, flat_map-append, All-push, get_or_from_slice_get, take_more, get_or-map, length-map, length-take-le, take-append-drop, PageSize, RecordLine, record_bytes, Record, KeptBank, IsCounted, IsRecordAt, area_bytes, Ghosts, held_of, KeptStore, IsShown, ShipLine, later, line_line, lines_text, next, record_text, records_text, told, All, ◌≡◌, ℕ, ◌+◌, ◌<◌, List, [], ◌∷◌, ◌++◌, length, map, take, drop, get_or, refl, sym, ◌∙◌, ap, subst, arith, append_assoc, append-nil, add-one, IsSome, Option, Result, unwrap_or, Failed, AsksAndPuts, shows_puts, Shows, Puts, None, nat_tests, All-drop, All-map, recursion_from_All, AllByRecursion, line_count, line_bytes, wrong_line, HasBytes, shipped, behind, AreLines, IsContent, ◌^◌, flat_map_more}
+use Rattle.standby.proofs.Common.{Some, slice_get, flat_map-append, All-push, get_or_from_slice_get, take_more, get_or-map, length-map, length-take-le, take-append-drop, PageSize, RecordLine, record_bytes, Record, BankView, IsCounted, IsRecordAt, area_bytes, Ghosts, held_of, StoreView, IsShown, ShipLine, later, line_line, lines_text, next, record_text, records_text, told, All, ◌≡◌, ℕ, ◌+◌, ◌<◌, List, [], ◌∷◌, ◌++◌, length, map, take, drop, get_or, refl, sym, ◌∙◌, ap, subst, arith, append_assoc, append-nil, add-one, IsSome, Option, Result, unwrap_or, Failed, AsksAndPuts, shows_puts, Shows, PutsAtOnce, None, nat_tests, All-drop, All-map, recursion_from_All, AllByRecursion, line_count, line_bytes, wrong_line, HasBytes, shipped, behind, AreLines, IsContent, ◌^◌, flat_map_more}
 use Rattle.std.proofs.Math.Seq.{split_at as cut}
 use Rattle.store.specs.Opened.{IsRead}
 use Rattle.store_format.proofs.Widths.{line-few, line-some}
 use Rattle.store.proofs.RecordLemmas.{stands_there}
 
 module _ {W : Type 0} (G : Ghosts W) where
-  pub shows_line : {T : Type 0} (bytes : List ℕ) (old new : W) (result : Result T Failed) → Puts G bytes old new result → AsksAndPuts G old new
+  pub shows_line : {T : Type 0} (bytes : List ℕ) (old new : W) (result : Result T Failed) → PutsAtOnce G bytes old new result → AsksAndPuts G old new
   shows_line bytes old new result puts = shows_puts G bytes old new result puts.only puts.printed (λ image seen left. let from = puts.crash image seen left in (from.0, from.1))
 
   -- a store that is shown is shown still, with the same records
-  pub still_shown : (store : KeptStore) (old new : W) → (shown : IsShown G store old) → G.held new ≡ G.held old → (still : IsShown G store new) × (still.shows.read.records ≡ shown.shows.read.records)
+  pub still_shown : (store : StoreView) (old new : W) → (shown : IsShown G store old) → G.held new ≡ G.held old → (still : IsShown G store new) × (still.shows.read.records ≡ shown.shows.read.records)
   still_shown store old new shown held =
       let same : held_of G new ≡ held_of G old = ap (λ (these : Option (List ℕ)). unwrap_or these []) held in
       let still = subst (λ (held : List ℕ). (shows : Shows held store) × (shows.read.records ≡ shown.shows.read.records)) (sym same) (shown.shows, refl) in
@@ -36,7 +36,7 @@ pub split_at : {A : Type 0} (xs : List A) (i : ℕ) (d : A) → i < length xs �
 split_at xs i d lt = rw (add-one) (cut xs i d lt)
 
 -- the record there
-pub record_there : (held : List ℕ) (bank : KeptBank) (place : ℕ) (read : IsRead held bank) (i : ℕ) → i < length read.records → place ≡ area_bytes bank.page (take i read.records) → (at : IsRecordAt held bank place) × (at.lines ≡ get_or read.records i [])
+pub record_there : (held : List ℕ) (bank : BankView) (place : ℕ) (read : IsRead held bank) (i : ℕ) → i < length read.records → place ≡ area_bytes bank.page (take i read.records) → (at : IsRecordAt held bank place) × (at.lines ≡ get_or read.records i [])
 record_there held bank place read i lt is = (
   record { read = read; before = take i read.records; lines = get_or read.records i []; after = drop (i + 1) read.records; are = split_at read.records i [] lt; place_is = is },
   refl,
@@ -58,7 +58,7 @@ records_split number (x ∷ xs) ys =
     (more.0, ap (λ (rest : List ℕ). record_text (next number) x ++ rest) more.1 ∙ sym (append_assoc (record_text (next number) x) (records_text (next number) xs) more.0))
 
 -- the same record in bytes that are the same
-pub there_still : (first second : List ℕ) (bank : KeptBank) (place : ℕ) → second ≡ first → (at : IsRecordAt first bank place) → (that : IsRecordAt second bank place) × (that.lines ≡ at.lines)
+pub there_still : (first second : List ℕ) (bank : BankView) (place : ℕ) → second ≡ first → (at : IsRecordAt first bank place) → (that : IsRecordAt second bank place) × (that.lines ≡ at.lines)
 there_still first second bank place same at = subst (λ (held : List ℕ). (that : IsRecordAt held bank place) × (that.lines ≡ at.lines)) (sym same) (at, refl)
 
 abbrev line_of : ShipLine → List ℕ
@@ -102,7 +102,7 @@ module _ (number : ℕ) (records : List (List RecordLine)) (i : ℕ) (lt : i < l
   records_rest = grind (arith, records_split number (take (i + 1) (map told records)) (drop (i + 1) (map told records)), records_more, take-append-drop (i + 1) (map told records))
 
 -- the record with an index of a store that is shown, after calls that only asked
-pub there_in : {W : Type 0} (G : Ghosts W) (store : KeptStore) (old new : W) (shown : IsShown G store old) (index place : ℕ) → G.held new ≡ G.held old → index < length shown.shows.read.records → place ≡ area_bytes store.bank.page (take index shown.shows.read.records)
+pub there_in : {W : Type 0} (G : Ghosts W) (store : StoreView) (old new : W) (shown : IsShown G store old) (index place : ℕ) → G.held new ≡ G.held old → index < length shown.shows.read.records → place ≡ area_bytes store.bank.page (take index shown.shows.read.records)
     → (still : IsShown G store new) × ((at : IsRecordAt (held_of G new) store.bank place) × (at.lines ≡ get_or shown.shows.read.records index []))
 there_in G store old new shown index place held lt is =
     let still = still_shown G store old new shown held in
@@ -116,12 +116,12 @@ ordered bytes bound least [] none all = tt
 ordered bytes bound least (line ∷ lines) none all = grind (arith, nat_tests, ordered bytes bound (line.line + 1) lines)
 
 -- each record of a bank that was read is in order
-all_ordered : (held : List ℕ) (bank : KeptBank) (read : IsRead held bank) → All (λ lines. wrong_line (length bank.newest) 0 lines ≡ None) read.records
+all_ordered : (held : List ℕ) (bank : BankView) (read : IsRead held bank) → All (λ lines. wrong_line (length bank.newest) 0 lines ≡ None) read.records
 all_ordered held bank read k d lt =
     let records = read.records in
     (stands_there held bank (area_bytes bank.page (take k records)) (record { read = read; before = take k records; lines = get_or records k d; after = drop (k + 1) records; are = split_at records k d lt; place_is = refl })).in_order
 
-pub content_is : (held : List ℕ) (store : KeptStore) (shows : Shows held store) (from : ℕ) → from < 2 ^ 64 → line_count store.header.directory < 2 ^ 32
+pub content_is : (held : List ℕ) (store : StoreView) (shows : Shows held store) (from : ℕ) → from < 2 ^ 64 → line_count store.header.directory < 2 ^ 32
     → All (λ lines. All (HasBytes (line_bytes store.header.directory.page)) lines) (drop (behind store.bank.base from) shows.read.records) → IsContent (shipped store shows.read.records from)
 content_is held store shows from small few bytes =
     let size = line_bytes store.header.directory.page in let lines = line_count store.header.directory in

@@ -1,5 +1,5 @@
 -- The lines that tell of records, and records that are kept and told, one after another.
-use Rattle.standby.proofs.Common.{nat_tests, ◌≡◌, inl, inr, ℕ, zero, suc, ◌+◌, ◌-◌, ◌<◌, ◌≤◌, List, [], ◌∷◌, ◌++◌, length, take, get_or, min, Bool, nat_le, refl, if◌then◌else◌, sym, ◌∙◌, ap, arith, append_assoc, append-nil, length-append, IfSome_then, take_more, take-append-le, take_min, fold-append, FlatStore, Stands, stands, Prints, kept_text, followed_text, StandWhole, IsAtNumber, well, SeesPart, laid, laid_by, IsStep, over, ShipLine, next, later, end_line, kept_line, codes, decimal, Option, IfSome, take_all, take-append-add, take-append_seam, ⊎_elim, subst, Result, Ok, Err, OnErr, Failed, Ghosts, FewerLater, Leaves, held_of, told_is, prints_none, prints_on, prints_same, prints_stop, leaves_on, KeptStore, TracksStore, BreaksAt, EndsWith, IsStopped, Follows, Keeps, SoFar, broken, Puts, Steps, followed_of, put_of, Followed, Done, DiskFault, PutFault, Elapses, FoundOf, Header, Content}
+use Rattle.standby.proofs.Common.{nat_tests, ◌≡◌, inl, inr, ℕ, zero, suc, ◌+◌, ◌-◌, ◌<◌, ◌≤◌, List, [], ◌∷◌, ◌++◌, length, take, get_or, min, Bool, nat_le, refl, if◌then◌else◌, sym, ◌∙◌, ap, arith, append_assoc, append-nil, length-append, IfSome_then, take_more, take-append-le, take_min, fold-append, FlatStore, Stands, stands, Prints, kept_text, followed_text, StandWhole, IsAtNumber, well, SeesPart, ship_laid, laid_by, IsLeftBetween, over, ShipLine, next, later, closing_line, kept_line, codes, decimal, Option, IfSome, take_all, take-append-add, take-append_seam, ⊎_elim, subst, Result, Ok, Err, OnErr, Failed, Ghosts, FewerLater, Leaves, held_of, told_is, prints_none, prints_on, prints_same, prints_stop, leaves_on, StoreView, TracksStore, BreaksAt, EndsWith, FollowStopped, Follows, FollowKeeps, SoFar, broken, PutsAtOnce, Steps, followed_of, put_result, Followed, Done, DiskFault, PutFault, Elapses, FoundOf, Header, ShipContent}
 use Rattle.standby.proofs.PutLemmas.{on_printed, PrintedNow, image_is, sure_puts, told_on}
 
 -- a line has bytes
@@ -34,7 +34,7 @@ kept_front number i (suc more) =
 pub told_front : (number i all : ℕ) → i ≤ all → (rest : List ℕ) × (followed_text number all ≡ kept_text number i ++ rest)
 told_front number i all le =
     let front = kept_front number i (all - i) in
-    (front.0 ++ end_line (later number all), grind (arith, front.1, append_assoc (kept_text number i) front.0 (end_line (later number all))))
+    (front.0 ++ closing_line (later number all), grind (arith, front.1, append_assoc (kept_text number i) front.0 (closing_line (later number all))))
 
 -- a first part of all, up to the lines of the first records
 pub told_whole : (number i all : ℕ) → i ≤ all → take (length (kept_text number i)) (followed_text number all) ≡ kept_text number i
@@ -60,7 +60,7 @@ later_more number i = omega arith
 
 -- one record more
 laid_more : (bytes : ℕ) (store : FlatStore) (records : List (List ShipLine)) (i : ℕ) → i < length records → over bytes (laid_by bytes store (take i records)) (get_or records i []) ≡ laid_by bytes store (take (i + 1) records)
-laid_more bytes store records i lt = cc (fold-append (laid bytes) store.bytes (take i records) (get_or records i [] ∷ []), take_more records i [] lt)
+laid_more bytes store records i lt = cc (fold-append (ship_laid bytes) store.bytes (take i records) (get_or records i [] ∷ []), take_more records i [] lt)
 
 pub stood_more : (bytes number : ℕ) (store : FlatStore) (records : List (List ShipLine)) (i : ℕ) (image : List ℕ) → i < length records
     → stands image ≡ Stands (next (later number i)) (over bytes (laid_by bytes store (take i records)) (get_or records i [])) → stands image ≡ Stands (later number (i + 1)) (laid_by bytes store (take (i + 1) records))
@@ -84,7 +84,7 @@ module _ (bytes number : ℕ) (store : FlatStore) (records : List (List ShipLine
   }
 
   -- what a crash leaves in the next
-  pub at_step : (i : ℕ) (mid : Option (List ℕ)) (image seen : List ℕ) → i < length records → Prints printed mid (kept_text number i) well → IsStep bytes (later number i) (laid_by bytes store (take i records)) (get_or records i []) mid image seen
+  pub at_step : (i : ℕ) (mid : Option (List ℕ)) (image seen : List ℕ) → i < length records → Prints printed mid (kept_text number i) well → IsLeftBetween bytes (later number i) (laid_by bytes store (take i records)) (get_or records i []) mid image seen
       → IsAtNumber bytes number store records printed image seen
   at_step i mid image seen lt prints (inl was) =
       at_some i image seen (omega (arith, lt)) was.0 (on_printed printed mid (kept_text number i) tt (λ (shown : List ℕ). seen ≡ shown) prints was.1)
@@ -112,19 +112,19 @@ module _ (bytes number : ℕ) (store : FlatStore) (records : List (List ShipLine
 
   -- what it leaves in the last line
   pub at_end : (mid : Option (List ℕ)) (image seen : List ℕ) → stands image ≡ Stands (later number (length records)) (laid_by bytes store records) → Prints printed mid (kept_text number (length records)) well
-      → SeesPart mid (end_line (later number (length records))) seen → IsAtNumber bytes number store records printed image seen
+      → SeesPart mid (closing_line (later number (length records))) seen → IsAtNumber bytes number store records printed image seen
   at_end mid image seen stood prints sees =
       let all = length records in
       record {
         j = all;
         few = omega arith;
         stood = stood ∙ ap (λ (these : List (List ShipLine)). Stands (later number all) (laid_by bytes store these)) (sym (take_all all records (omega arith)));
-        told = IfSome_then printed (on_printed printed mid (kept_text number all) tt (λ (shown : List ℕ). (count : ℕ) × (seen ≡ shown ++ take count (end_line (later number all)))) prints sees) (λ shown part. record {
+        told = IfSome_then printed (on_printed printed mid (kept_text number all) tt (λ (shown : List ℕ). (count : ℕ) × (seen ≡ shown ++ take count (closing_line (later number all)))) prints sees) (λ shown part. record {
           count = length (kept_text number all) + part.0;
           seen_is =
               part.1
-              ∙ append_assoc shown (kept_text number all) (take part.0 (end_line (later number all)))
-              ∙ ap (λ (these : List ℕ). shown ++ these) (sym (take-append-add (kept_text number all) (end_line (later number all)) part.0));
+              ∙ append_assoc shown (kept_text number all) (take part.0 (closing_line (later number all)))
+              ∙ ap (λ (these : List ℕ). shown ++ these) (sym (take-append-add (kept_text number all) (closing_line (later number all)) part.0));
           whole = all;
           stand = stand_all number all (length (kept_text number all) + part.0) (omega arith);
           no_more = omega arith;
@@ -134,7 +134,7 @@ module _ (bytes number : ℕ) (store : FlatStore) (records : List (List ShipLine
 
 module _ {W : Type 0} (G : Ghosts W) (fewer_later : FewerLater G) (printed_now : PrintedNow G) (bytes number : ℕ) (store : FlatStore) (records : List (List ShipLine)) where
   -- none yet
-  pub so_far_none : (durable : KeptStore) (now : W) → later number 0 ≡ number → TracksStore G durable now → stands (held_of G now) ≡ Stands number store → SoFar G bytes number store records 0 durable now now
+  pub so_far_none : (durable : StoreView) (now : W) → later number 0 ≡ number → TracksStore G durable now → stands (held_of G now) ≡ Stands number store → SoFar G bytes number store records 0 durable now now
   so_far_none durable now number_is tracks stood =
       let here : stands (held_of G now) ≡ Stands (later number 0) (laid_by bytes store (take 0 records)) = stood ∙ ap (λ (n : ℕ). Stands n store) (sym number_is) in
       record {
@@ -147,8 +147,8 @@ module _ {W : Type 0} (G : Ghosts W) (fewer_later : FewerLater G) (printed_now :
         times = λ some. omega arith;
       }
 
-  module _ (i : ℕ) (lt : i < length records) (old_store : KeptStore) (before mid : W) (time : Elapses G.moment G.left_since before mid) (so_far : SoFar G bytes number store records i old_store before mid)
-      (durable : KeptStore) (after : W) (on : Elapses G.moment G.left_since mid after) where
+  module _ (i : ℕ) (lt : i < length records) (old_store : StoreView) (before mid : W) (time : Elapses G.moment G.left_since before mid) (so_far : SoFar G bytes number store records i old_store before mid)
+      (durable : StoreView) (after : W) (on : Elapses G.moment G.left_since mid after) where
     -- a crash in the next
     crash_on : (result : Result (Unit {0}) Followed) → Steps G bytes (later number i) (laid_by bytes store (take i records)) (get_or records i []) durable mid after result → Leaves G (IsAtNumber bytes number store records (G.printed before)) before after
     crash_on result steps =
@@ -166,7 +166,7 @@ module _ {W : Type 0} (G : Ghosts W) (fewer_later : FewerLater G) (printed_now :
         grind (arith, crash_on (Ok tt) steps, steps.ends, stood_more bytes number store records i (held_of G after) lt steps.ends.1, printed, text, so_far.times, told_on (G.printed before) (G.printed mid) (kept_text number i) so_far.printed)
 
     -- it isn't
-    pub so_far_stopped : (why : Followed) → Steps G bytes (later number i) (laid_by bytes store (take i records)) (get_or records i []) durable mid after (Err why) → Keeps G bytes number store records durable before after why
+    pub so_far_stopped : (why : Followed) → Steps G bytes (later number i) (laid_by bytes store (take i records)) (get_or records i []) durable mid after (Err why) → FollowKeeps G bytes number store records durable before after why
     so_far_stopped DiskFault steps = record {
       crash = crash_on (Err DiskFault) steps;
       ends = (
@@ -196,52 +196,52 @@ module _ {W : Type 0} (G : Ghosts W) (fewer_later : FewerLater G) (printed_now :
     so_far_stopped _ steps = absurd steps.ends
 
   -- all are
-  pub so_far_all : (count : ℕ) (durable : KeptStore) (before now : W) → count ≡ length records → SoFar G bytes number store records count durable before now → Keeps G bytes number store records durable before now Done
+  pub so_far_all : (count : ℕ) (durable : StoreView) (before now : W) → count ≡ length records → SoFar G bytes number store records count durable before now → FollowKeeps G bytes number store records durable before now Done
   so_far_all count durable before now all so_far = record {
     crash = so_far.crash;
     ends = grind (arith, so_far.tracks, so_far.stood, take_all count records (omega (arith, all)), prints_same (G.printed before) (G.printed now) (kept_text number count) (kept_text number (length records)) well (ap (kept_text number) all) so_far.printed, so_far.times);
   }
 
   -- and the last line is put behind them
-  module _ (durable : KeptStore) (before mid after : W) (time : Elapses G.moment G.left_since before mid) (keeps : Keeps G bytes number store records durable before mid Done) where
+  module _ (durable : StoreView) (before mid after : W) (time : Elapses G.moment G.left_since before mid) (keeps : FollowKeeps G bytes number store records durable before mid Done) where
     abbrev last : List ℕ
-    last = end_line (later number (length records))
+    last = closing_line (later number (length records))
 
-    end_crash : {T : Type 0} (how : Result T Failed) → Puts G last mid after how → Leaves G (IsAtNumber bytes number store records (G.printed before)) before after
+    end_crash : {T : Type 0} (how : Result T Failed) → PutsAtOnce G last mid after how → Leaves G (IsAtNumber bytes number store records (G.printed before)) before after
     end_crash how puts =
         leaves_on G fewer_later before mid after time puts.only.time (IsAtNumber bytes number store records (G.printed before)) keeps.crash
         (λ image seen left.
         let from = image_is G printed_now last mid after how puts keeps.ends.0.tracks.sure image seen left in
         at_end bytes number store records (G.printed before) (G.printed mid) image seen (ap stands from.0 ∙ keeps.ends.0.stood) keeps.ends.1 from.1)
 
-    pub ended : (line : List ℕ) (result : Result (Unit {0}) Followed) → line ≡ last → OnErr result (result ≡ Err PutFault) → Puts G line mid after (put_of result) → Follows G bytes number store records durable before after (followed_of result)
+    pub ended : (line : List ℕ) (result : Result (Unit {0}) Followed) → line ≡ last → OnErr result (result ≡ Err PutFault) → PutsAtOnce G line mid after (put_result result) → Follows G bytes number store records durable before after (followed_of result)
     ended line (Ok done) is only puts =
-        let put = subst (λ (these : List ℕ). Puts {T = Unit {0}} G these mid after well) is puts in
+        let put = subst (λ (these : List ℕ). PutsAtOnce {T = Unit {0}} G these mid after well) is puts in
         let sure = sure_puts G printed_now fewer_later last mid after well put keeps.ends.0.tracks.sure in
         let printed = prints_on (G.printed before) (G.printed mid) (G.printed after) (kept_text number (length records)) last tt well keeps.ends.1 put.printed in
         let told = told_on (G.printed before) (G.printed mid) (kept_text number (length records)) keeps.ends.1 in
         grind (arith, end_crash well put, sure, keeps.ends.0.tracks.shows, keeps.ends.0.stood, printed, keeps.ends.2, put.once, told)
     ended line (Err why) is only puts =
-        let put = subst (λ (these : List ℕ). Puts {T = Unit {0}} G these mid after broken) is puts in
+        let put = subst (λ (these : List ℕ). PutsAtOnce {T = Unit {0}} G these mid after broken) is puts in
         let sure = sure_puts G printed_now fewer_later last mid after broken put keeps.ends.0.tracks.sure in
         let printed = prints_on (G.printed before) (G.printed mid) (G.printed after) (kept_text number (length records)) last tt broken keeps.ends.1 put.printed in
         grind (arith, nat_tests, end_crash broken put, sure, keeps.ends.0.tracks.shows, keeps.ends.0.stood, printed, take_all (length records) records (omega arith))
 
   -- what stopped in a record stops there
-  pub stopped_early : (durable : KeptStore) (before after : W) (why : Followed) → (why ≡ Done → ⊥) → Keeps G bytes number store records durable before after why → Follows G bytes number store records durable before after why
-  stopped_early durable before after why differs keeps = grind (arith, nat_tests, prints_stop (G.printed before) (G.printed after) (kept_text number (length records)) (end_line (later number (length records))) broken broken refl refl)
+  pub stopped_early : (durable : StoreView) (before after : W) (why : Followed) → (why ≡ Done → ⊥) → FollowKeeps G bytes number store records durable before after why → Follows G bytes number store records durable before after why
+  stopped_early durable before after why differs keeps = grind (arith, nat_tests, prints_stop (G.printed before) (G.printed after) (kept_text number (length records)) (closing_line (later number (length records))) broken broken refl refl)
 
 -- a fault isn't the end
-pub not_done : (why : Followed) → IsStopped why → why ≡ Done → ⊥
+pub not_done : (why : Followed) → FollowStopped why → why ≡ Done → ⊥
 not_done why stopped is = grind (arith, nat_tests)
 
 -- a fault comes of a text that fits
-pub found_stopped : (header : Header) (content : Content) (from : ℕ) (why : Followed)
-    → IsStopped why → FoundOf header content from Done → FoundOf header content from why
+pub found_stopped : (header : Header) (content : ShipContent) (from : ℕ) (why : Followed)
+    → FollowStopped why → FoundOf header content from Done → FoundOf header content from why
 found_stopped header content from why stopped fits = grind (arith, nat_tests)
 
 -- nothing is called
-pub follows_none : {W : Type 0} (G : Ghosts W) (fewer_later : FewerLater G) (printed_now : PrintedNow G) (bytes number : ℕ) (store : FlatStore) (records : List (List ShipLine)) (durable : KeptStore) (now : W) (how : Followed)
+pub follows_none : {W : Type 0} (G : Ghosts W) (fewer_later : FewerLater G) (printed_now : PrintedNow G) (bytes number : ℕ) (store : FlatStore) (records : List (List ShipLine)) (durable : StoreView) (now : W) (how : Followed)
     → later number 0 ≡ number → TracksStore G durable now → stands (held_of G now) ≡ Stands number store → EndsWith G bytes number store records (followed_text number (length records)) (length records + 1) durable now now how → Follows G bytes number store records durable now now how
 follows_none G fewer_later printed_now bytes number store records durable now how number_is tracks stood ends =
     record { crash = (so_far_none G fewer_later printed_now bytes number store records durable now number_is tracks stood).crash; ends = ends }

@@ -1,20 +1,20 @@
 -- What following a ship text did.
 use Rattle.std.specs.Prelude.{◌≡◌, ◌≢◌, ◌⊎◌, ℕ, ◌+◌, ◌≤◌, ◌<◌, List, [], length, IsSome, Result, MatchResult, OnOk, IfErr}
-use Rattle.standby.specs.Below.{Call, call, Elapses, FaultsBy, FlatStore, Ghosts, Given, held_of, IsFaultAt, IsOfOpening, IsOfStart, KeptStore, Leaves, number_of, OnlyAsks, PrintsBy, RoomReads, Rose, Shows, Stands, stands, Status, TellsStore}
+use Rattle.standby.specs.Below.{Called, call, Elapses, FaultsBy, FlatStore, Ghosts, Given, held_of, IsFaultAt, IsOfOpening, IsOfStart, StoreView, Leaves, store_number, OnlyAsks, PrintsBy, RoomReads, Rose, Shows, Stands, stands, Status, TellsStore}
 use Rattle.outside.specs.Durable.{IsSure}
 use Rattle.outside.specs.declared.source.Source as source
-use Rattle.standby.specs.State.{bank_behind, AllFit, IsAmong, IsTooLong, due, state}
+use Rattle.standby.specs.State.{bank_behind, AllFit, IsTextNumber, IsTooLong, due, state}
 use Rattle.standby.specs.Followed.{IsAlike, IsAtNumber, StopsAt, followed_text}
-use Rattle.standby.specs.Puts.{CountsPuts}
+use Rattle.standby.specs.TextPut.{CountsPuts}
 use Rattle.standby.specs.Read.{IsFirstBad}
-use Rattle.standby.specs.Text.{Content, ShipLine, IsContent, IsTextOf, later, text_of}
+use Rattle.standby.specs.Text.{ShipContent, ShipLine, IsContent, IsTextOf, later, ship_text}
 use Rattle.standby.specs.declared.text.Ship.{Ship}
-use Rattle.call_status.specs.SourceText.{HasRead, IsWhole}
+use Rattle.call_status.specs.SourceText.{HasRead, IsWholeText}
 use Rattle.call_status.specs.declared.status.Status.TheVariants as status
 
 -- The bytes of the start show a store, and those of the end the same with the bank that commits of these records make, one after another.
 pub record KeepsBank {W : Type 0} (G : Ghosts W) (records : List (List ShipLine)) (before after : W) : Type 0 where
-  pub store : KeptStore
+  pub store : StoreView
   pub was : Shows (held_of G before) store
   pub now : Shows (held_of G after) (record store { bank = bank_behind store.bank records })
 
@@ -22,7 +22,7 @@ pub record KeepsBank {W : Type 0} (G : Ghosts W) (records : List (List ShipLine)
 -- the commits. PutFault: the bytes are sure and stand for the number of the start or one of the text's behind it. DiskFault: the whole lines of some of
 -- the records are printed, fewer than all, and each image of the end stands for the last of these numbers, or for the one behind it; or the disk was
 -- only asked.
-abbrev pub EndsOn : {W : Type 0} → Ghosts W → Content → ℕ → FlatStore → W → W → Status → Type 0
+abbrev pub EndsOn : {W : Type 0} → Ghosts W → ShipContent → ℕ → FlatStore → W → W → Status → Type 0
 EndsOn G content number store before after status.Done =
     CountsPuts G (length (due content number) + 1) before after × IsSure G after
     × (stands (held_of G after) ≡ Stands (later number (length (due content number))) (state content number store (length (due content number))))
@@ -36,32 +36,32 @@ EndsOn G content number store before after _ = Unit {0}
 -- Where the bytes stand for a number and a store: each image that a crash leaves since is one of the start with nothing printed since, or stands for
 -- the store at that number or at one of the text's behind it, and where the bytes printed are told, not before a number whose whole `kept` line was
 -- seen, and at most one behind the last such; the lines are printed, or a first part of them.
-pub record HasFollowed {W : Type 0} (G : Ghosts W) (content : Content) (number : ℕ) (store : FlatStore) (call : Call W) : Type 0 where
+pub record HasFollowed {W : Type 0} (G : Ghosts W) (content : ShipContent) (number : ℕ) (store : FlatStore) (call : Called W) : Type 0 where
   pub crash : Leaves G (λ image seen. IsOfStart G call.before image seen ⊎ IsAtNumber content.line_bytes number store (due content number) (G.printed call.before) image seen) call.before call.after
   pub printed : PrintsBy (G.printed call.before) (G.printed call.after) (followed_text number (length (due content number))) call.status
   pub ends : EndsOn G content number store call.before call.after call.status
 
 -- what following did from a text with this content, on a store that stood
-abbrev pub FollowsOn : {W : Type 0} → Ghosts W → Content → W → W → Status → Type 0
+abbrev pub FollowsOn : {W : Type 0} → Ghosts W → ShipContent → W → W → Status → Type 0
 FollowsOn G content before after now = (number : ℕ) (store : FlatStore) → TellsStore G before number store → HasFollowed G content number store (call before after [] now)
 
 -- The store isn't alike; or its number isn't among the text's; or a record behind it, the first such, is too long; or the text is followed.
-abbrev pub IsDueOn : KeptStore → Content → Status → Type 0
+abbrev pub IsDueOn : StoreView → ShipContent → Status → Type 0
 IsDueOn store content (status.Stream place kind) =
     ((kind ≡ 2) × (place ≡ 1) × (¬ (IsAlike store.header content)))
-    ⊎ ((kind ≡ 3) × IsAlike store.header content × IsAmong content (number_of store) × IsTooLong store.header content (number_of store) place)
+    ⊎ ((kind ≡ 3) × IsAlike store.header content × IsTextNumber content (store_number store) × IsTooLong store.header content (store_number store) place)
 IsDueOn store content (status.NotKept first last) =
-    (first ≡ content.start) × (last ≡ later content.start (length content.records)) × IsAlike store.header content × (¬ (IsAmong content (number_of store)))
-IsDueOn store content _ = IsAlike store.header content × IsAmong content (number_of store) × AllFit store.header content (number_of store)
+    (first ≡ content.start) × (last ≡ later content.start (length content.records)) × IsAlike store.header content × (¬ (IsTextNumber content (store_number store)))
+IsDueOn store content _ = IsAlike store.header content × IsTextNumber content (store_number store) × AllFit store.header content (store_number store)
 
 -- the bytes show a store for which the status is due
-pub record IsDue {W : Type 0} (G : Ghosts W) (content : Content) (before : W) (now : Status) : Type 0 where
-  pub store : KeptStore
+pub record IsDue {W : Type 0} (G : Ghosts W) (content : ShipContent) (before : W) (now : Status) : Type 0 where
+  pub store : StoreView
   pub shows : Shows (held_of G before) store
   pub due_on : IsDueOn store content now
 
 -- what following a text with this content did, by the status; a disk that fails in the opening was only asked
-abbrev pub OnStore : {W : Type 0} → Ghosts W → Content → W → W → Status → Type 0
+abbrev pub OnStore : {W : Type 0} → Ghosts W → ShipContent → W → W → Status → Type 0
 OnStore G content before after status.NoMemory = Unit {0}
 OnStore G content before after (status.Store offset) = IsSome (G.held before) → IsFaultAt (held_of G before) offset
 OnStore G content before after (status.Stream place kind) = ((kind ≡ 2) ⊎ (kind ≡ 3)) × (IsSome (G.held before) → IsDue G content before (status.Stream place kind))
@@ -72,22 +72,22 @@ OnStore G content before after status.DiskFault = (OnlyAsks G before after ⊎ (
 OnStore G content before after _ = ⊥
 
 -- The source gave a ship text, whole, that holds this.
-pub record HasText (given : Given) (content : Content) : Type 0 where
+pub record HasText (given : Given) (content : ShipContent) : Type 0 where
   pub text : List ℕ
-  pub whole : IsWhole given.left given.left_now text
+  pub whole : IsWholeText given.left given.left_now text
   pub is_content : IsContent content
-  pub means : text ≡ text_of content
+  pub means : text ≡ ship_text content
 
 -- the source gave a text, whole, that holds what the value does
 abbrev pub IsShipFrom : Given → Ship → Type 0
-IsShipFrom given ship = (text : List ℕ) × IsWhole given.left given.left_now text × IsTextOf text ship
+IsShipFrom given ship = (text : List ℕ) × IsWholeText given.left given.left_now text × IsTextOf text ship
 
 -- why there is no ship text from a source
 abbrev pub IsNoText : Given → Status → Type 0
 IsNoText given status.SourceFault = Rose given.faults given.faults_now
 IsNoText given status.TooBig = HasRead given.left given.left_now 1048577
 IsNoText given status.NoMemory = Unit {0}
-IsNoText given (status.Stream place kind) = (kind ≡ 1) × ((text : List ℕ) × IsWhole given.left given.left_now text × IsFirstBad text place)
+IsNoText given (status.Stream place kind) = (kind ≡ 1) × ((text : List ℕ) × IsWholeText given.left given.left_now text × IsFirstBad text place)
 IsNoText given _ = ⊥
 
 -- a source gave a ship text, or why there is none; its count of faults rises with SourceFault alone
@@ -98,14 +98,14 @@ pub record GivesShip (given : Given) (result : Result Ship Status) : Type 0 wher
 
 -- there is no ship text, and all that is outside is left; or one was followed so
 abbrev pub FollowedBy : {W : Type 0} → Ghosts W → Given → W → W → Status → Type 0
-FollowedBy G given before after now = ((after ≡ before) × IsNoText given now) ⊎ ((content : Content) × HasText given content × OnStore G content before after now)
+FollowedBy G given before after now = ((after ≡ before) × IsNoText given now) ⊎ ((content : ShipContent) × HasText given content × OnStore G content before after now)
 
 -- nothing was committed
-abbrev pub IsRefusal : Status → Type 0
-IsRefusal status.Done = ⊥
-IsRefusal status.PutFault = ⊥
-IsRefusal status.DiskFault = ⊥
-IsRefusal _ = Unit {0}
+abbrev pub IsUncommitted : Status → Type 0
+IsUncommitted status.Done = ⊥
+IsUncommitted status.PutFault = ⊥
+IsUncommitted status.DiskFault = ⊥
+IsUncommitted _ = Unit {0}
 
 -- a status of following a ship text
 abbrev pub IsOfText : Status → Type 0
@@ -126,7 +126,7 @@ pub record EndsFollowing {W : Type 0} (G : Ghosts W) (before after : W) (now : S
 
 -- What it did; there is no order. The disk is as honest as it was and time elapsed, bytes that were told are told, the disk's count of faults rises with
 -- DiskFault alone, the screen's with PutFault, and the source's with SourceFault. A refusal only asked the disk.
-pub record FollowedFrom {W : Type 0} (G : Ghosts W) (given : Given) (call : Call W) : Type 0 where
+pub record FollowedFrom {W : Type 0} (G : Ghosts W) (given : Given) (call : Called W) : Type 0 where
   pub no_order : call.order ≡ []
   pub honest : G.is_honest call.after ≡ G.is_honest call.before
   pub time : Elapses G.moment G.left_since call.before call.after
@@ -134,7 +134,7 @@ pub record FollowedFrom {W : Type 0} (G : Ghosts W) (given : Given) (call : Call
   pub calm : call.status ≢ status.DiskFault → G.disk_faults call.after ≡ G.disk_faults call.before
   pub put : call.status ≢ status.PutFault → G.put_faults call.after ≡ G.put_faults call.before
   pub read : call.status ≢ status.SourceFault → given.faults_now ≡ given.faults
-  pub refused : IsRefusal call.status → OnlyAsks G call.before call.after
+  pub refused : IsUncommitted call.status → OnlyAsks G call.before call.after
   pub by_status : FollowedBy G given call.before call.after call.status
 
 -- a status of following

@@ -1,13 +1,14 @@
 -- What following a text does, and one record of it.
 use Rattle.std.specs.Prelude.{◌≡◌, ℕ, zero, suc, ◌+◌, ◌<◌, ◌≤◌, ◌↔◌, List, [], ◌++◌, length, take, Option, Result, Ok, Err, IfErr, OnOk, IsSome, IfSome, ◌⊎◌, map, false}
-use Rattle.standby.specs.Below.{Elapses, Failed, FlatStore, Ghosts, Header, held_of, HoldsAtLeast, IsMoreBy, KeptStore, Leaves, line_bytes, line_count, number_of, Prints, Rose, Stands, stands, TracksStore, AreTold, most_lines, RecordLine, with_begun}
-use Rattle.standby.specs.Puts.{CountsPuts, SeesPart}
-use Rattle.standby.specs.State.{laid_by, bank_begun, bank_behind, bank_with, due, laid, IsAmong, IsTooLong, AllFit}
-use Rattle.standby.specs.Text.{Content, content_of, ShipLine, later, end_line, kept_line, AreLines, IsPacked, record_of, next, told}
+use Rattle.standby.specs.Below.{Elapses, Failed, FlatStore, Ghosts, Header, held_of, HoldsAtLeast, IsMoreBy, StoreView, Leaves, line_bytes, line_count, store_number, Prints, Rose, Stands, stands, TracksStore, AreTold, most_lines, RecordLine, with_begun}
+use Rattle.standby.specs.TextPut.{CountsPuts, SeesPart}
+use Rattle.standby.specs.State.{laid_by, bank_begun, bank_behind, bank_with, due, ship_laid, IsTextNumber, IsTooLong, AllFit}
+use Rattle.standby.specs.Text.{ShipContent, ship_content, ShipLine, later, closing_line, kept_line, AreLines, IsPacked, record_of, next, told}
 use Rattle.standby.specs.declared.following.Followed.{Followed}
 use Rattle.standby.specs.declared.following.Followed.TheVariants.{Done, Geometry, NotKept, Long, DiskFault, PutFault}
 use Rattle.standby.specs.declared.text.Ship.{Ship}
 use Rattle.standby.specs.declared.text.ShipRecord.{ShipRecord}
+pub use Rattle.call_status.specs.Printed.{broken, well}
 
 -- the lines that tell of so many records behind a number
 abbrev pub kept_text : ℕ → ℕ → List ℕ
@@ -16,10 +17,10 @@ kept_text number (suc count) = kept_text number count ++ kept_line (later number
 
 -- all that is told of so many records behind a number
 abbrev pub followed_text : ℕ → ℕ → List ℕ
-followed_text number count = kept_text number count ++ end_line (later number count)
+followed_text number count = kept_text number count ++ closing_line (later number count)
 
 -- the text is of a store with such a header: its lines are as long and as many
-pub record IsAlike (header : Header) (content : Content) : Type 0 where
+pub record IsAlike (header : Header) (content : ShipContent) : Type 0 where
   pub bytes : content.line_bytes ≡ line_bytes header.directory.page
   pub lines : content.lines ≡ line_count header.directory
 
@@ -28,8 +29,8 @@ abbrev pub StandWhole : (number all count whole : ℕ) → Type 0
 StandWhole number all count whole = (i : ℕ) → i ≤ all → (length (kept_text number i) ≤ count) ↔ (i ≤ whole)
 
 -- this holds of each store that is tracked and for which the bytes stand
-abbrev pub OfTracked : {W : Type 0} → Ghosts W → KeptStore → W → (FlatStore → Type 0) → Type 0
-OfTracked G durable now P = (store : FlatStore) → TracksStore G durable now → stands (held_of G now) ≡ Stands (number_of durable) store → P store
+abbrev pub OfTracked : {W : Type 0} → Ghosts W → StoreView → W → (FlatStore → Type 0) → Type 0
+OfTracked G durable now P = (store : FlatStore) → TracksStore G durable now → stands (held_of G now) ≡ Stands (store_number durable) store → P store
 
 -- Seen is what was printed before with a first part of what is told of so many records behind a number, in which the lines of the first few stand
 -- whole, or of all of these but the last.
@@ -60,16 +61,16 @@ pub record OnlyGoesOn {W : Type 0} (G : Ghosts W) (old new : W) : Type 0 where
   pub put : G.put_faults old ≤ G.put_faults new
 
 -- why it ended so: no count rose, or the disk's did, or the screen's
-abbrev pub EndsBy : {W : Type 0} → Ghosts W → W → W → Followed → Type 0
-EndsBy G old new DiskFault = Rose (G.disk_faults old) (G.disk_faults new) × (G.put_faults new ≡ G.put_faults old)
-EndsBy G old new PutFault = (G.disk_faults new ≡ G.disk_faults old) × Rose (G.put_faults old) (G.put_faults new)
-EndsBy G old new _ = (G.disk_faults new ≡ G.disk_faults old) × (G.put_faults new ≡ G.put_faults old)
+abbrev pub FollowEndsBy : {W : Type 0} → Ghosts W → W → W → Followed → Type 0
+FollowEndsBy G old new DiskFault = Rose (G.disk_faults old) (G.disk_faults new) × (G.put_faults new ≡ G.put_faults old)
+FollowEndsBy G old new PutFault = (G.disk_faults new ≡ G.disk_faults old) × Rose (G.put_faults old) (G.put_faults new)
+FollowEndsBy G old new _ = (G.disk_faults new ≡ G.disk_faults old) × (G.put_faults new ≡ G.put_faults old)
 
 -- a fault stopped it
-abbrev pub IsStopped : Followed → Type 0
-IsStopped DiskFault = Unit {0}
-IsStopped PutFault = Unit {0}
-IsStopped _ = ⊥
+abbrev pub FollowStopped : Followed → Type 0
+FollowStopped DiskFault = Unit {0}
+FollowStopped PutFault = Unit {0}
+FollowStopped _ = ⊥
 
 -- how it ended
 abbrev pub followed_of : Result (Unit {0}) Followed → Followed
@@ -77,30 +78,23 @@ followed_of (Ok done) = Done
 followed_of (Err why) = why
 
 -- Following goes on so, or a fault stopped it: told bytes stay told and get no fewer, no count rises but that of the fault, and the header stays.
-pub record GoesOn {W : Type 0} (G : Ghosts W) (was durable : KeptStore) (old new : W) (result : Result (Unit {0}) Followed) : Type 0 where
+pub record KeepsFollowing {W : Type 0} (G : Ghosts W) (was durable : StoreView) (old new : W) (result : Result (Unit {0}) Followed) : Type 0 where
   pub only : OnlyGoesOn G old new
-  pub ends : EndsBy G old new (followed_of result)
-  pub stopped : IfErr result IsStopped
+  pub ends : FollowEndsBy G old new (followed_of result)
+  pub stopped : IfErr result FollowStopped
   pub header : durable.header ≡ was.header
 
 -- what a text was found to be: of another store; not with the store's number; with a record that is too long, at this number; or one that fits
-abbrev pub FoundOf : Header → Content → (from : ℕ) → Followed → Type 0
+abbrev pub FoundOf : Header → ShipContent → (from : ℕ) → Followed → Type 0
 FoundOf header content from Geometry = ¬ (IsAlike header content)
-FoundOf header content from NotKept = IsAlike header content × (¬ (IsAmong content from))
-FoundOf header content from (Long number) = IsAlike header content × IsAmong content from × IsTooLong header content from number
-FoundOf header content from _ = IsAlike header content × IsAmong content from × AllFit header content from
+FoundOf header content from NotKept = IsAlike header content × (¬ (IsTextNumber content from))
+FoundOf header content from (Long number) = IsAlike header content × IsTextNumber content from × IsTooLong header content from number
+FoundOf header content from _ = IsAlike header content × IsTextNumber content from × AllFit header content from
 
 -- the store is tracked, and stands for what stood with these records laid over it
-pub record IsLater {W : Type 0} (G : Ghosts W) (bytes number : ℕ) (store : FlatStore) (records : List (List ShipLine)) (durable : KeptStore) (now : W) : Type 0 where
+pub record IsLater {W : Type 0} (G : Ghosts W) (bytes number : ℕ) (store : FlatStore) (records : List (List ShipLine)) (durable : StoreView) (now : W) : Type 0 where
   pub tracks : TracksStore G durable now
   pub stood : stands (held_of G now) ≡ Stands (later number (length records)) (laid_by bytes store records)
-
--- how bytes were put that went well, and that didn't
-abbrev pub well : Result (Unit {0}) Failed
-well = Ok tt
-
-abbrev pub broken : Result (Unit {0}) Failed
-broken = Err (record {})
 
 -- So many of the records are told, to the byte, and each image that a crash leaves now stands for the store with these, or with one more.
 pub record StopsAt {W : Type 0} (G : Ghosts W) (bytes number : ℕ) (store : FlatStore) (records : List (List ShipLine)) (before after : W) : Type 0 where
@@ -109,7 +103,7 @@ pub record StopsAt {W : Type 0} (G : Ghosts W) (bytes number : ℕ) (store : Fla
   pub left : Leaves G (λ image seen. (k : ℕ) × (count ≤ k) × (k ≤ count + 1) × (stands image ≡ Stands (later number k) (laid_by bytes store (take k records)))) after after
 
 -- The store is tracked, and stands for what stood with so many of the records laid over it.
-pub record BreaksAt {W : Type 0} (G : Ghosts W) (bytes number : ℕ) (store : FlatStore) (records : List (List ShipLine)) (durable : KeptStore) (now : W) : Type 0 where
+pub record BreaksAt {W : Type 0} (G : Ghosts W) (bytes number : ℕ) (store : FlatStore) (records : List (List ShipLine)) (durable : StoreView) (now : W) : Type 0 where
   pub count : ℕ
   pub few : count ≤ length records
   pub tracks : TracksStore G durable now
@@ -117,7 +111,7 @@ pub record BreaksAt {W : Type 0} (G : Ghosts W) (bytes number : ℕ) (store : Fl
 
 -- how following ended that was to print this text by so many puts, from a store that was tracked: all records were kept and it is printed, each line by
 -- one put; or some were kept, and a first part of it is printed; or some were kept and told, and the disk then failed; or nothing was called
-abbrev pub EndsWith : {W : Type 0} → Ghosts W → (bytes number : ℕ) → FlatStore → List (List ShipLine) → (text : List ℕ) (puts : ℕ) → KeptStore → W → W → Followed → Type 0
+abbrev pub EndsWith : {W : Type 0} → Ghosts W → (bytes number : ℕ) → FlatStore → List (List ShipLine) → (text : List ℕ) (puts : ℕ) → StoreView → W → W → Followed → Type 0
 EndsWith G bytes number store records text puts durable before after Done =
     IsLater G bytes number store records durable after × Prints (G.printed before) (G.printed after) text well × CountsPuts G puts before after
 EndsWith G bytes number store records text puts durable before after PutFault =
@@ -127,7 +121,7 @@ EndsWith G bytes number store records text puts durable before after DiskFault =
 EndsWith G bytes number store records text puts durable before after _ = after ≡ before
 
 -- so many of the records are kept and told
-pub record SoFar {W : Type 0} (G : Ghosts W) (bytes number : ℕ) (store : FlatStore) (records : List (List ShipLine)) (count : ℕ) (durable : KeptStore) (before now : W) : Type 0 where
+pub record SoFar {W : Type 0} (G : Ghosts W) (bytes number : ℕ) (store : FlatStore) (records : List (List ShipLine)) (count : ℕ) (durable : StoreView) (before now : W) : Type 0 where
   pub crash : Leaves G (IsAtNumber bytes number store records (G.printed before)) before now
   pub tracks : TracksStore G durable now
   pub stood : stands (held_of G now) ≡ Stands (later number count) (laid_by bytes store (take count records))
@@ -135,16 +129,16 @@ pub record SoFar {W : Type 0} (G : Ghosts W) (bytes number : ℕ) (store : FlatS
   pub times : CountsPuts G count before now
 
 -- What following did that was to print this text by so many puts: each moment of it leaves the store at a number, and how it ended.
-pub record FollowsWith {W : Type 0} (G : Ghosts W) (bytes number : ℕ) (store : FlatStore) (records : List (List ShipLine)) (text : List ℕ) (puts : ℕ) (durable : KeptStore) (before after : W) (how : Followed) : Type 0 where
+pub record FollowsWith {W : Type 0} (G : Ghosts W) (bytes number : ℕ) (store : FlatStore) (records : List (List ShipLine)) (text : List ℕ) (puts : ℕ) (durable : StoreView) (before after : W) (how : Followed) : Type 0 where
   pub crash : Leaves G (IsAtNumber bytes number store records (G.printed before)) before after
   pub ends : EndsWith G bytes number store records text puts durable before after how
 
 -- so it was with the line of each record
-abbrev pub Keeps : {W : Type 0} → Ghosts W → (bytes number : ℕ) → FlatStore → List (List ShipLine) → KeptStore → W → W → Followed → Type 0
-Keeps G bytes number store records = FollowsWith G bytes number store records (kept_text number (length records)) (length records)
+abbrev pub FollowKeeps : {W : Type 0} → Ghosts W → (bytes number : ℕ) → FlatStore → List (List ShipLine) → StoreView → W → W → Followed → Type 0
+FollowKeeps G bytes number store records = FollowsWith G bytes number store records (kept_text number (length records)) (length records)
 
 -- and with the last line behind them
-abbrev pub Follows : {W : Type 0} → Ghosts W → (bytes number : ℕ) → FlatStore → List (List ShipLine) → KeptStore → W → W → Followed → Type 0
+abbrev pub Follows : {W : Type 0} → Ghosts W → (bytes number : ℕ) → FlatStore → List (List ShipLine) → StoreView → W → W → Followed → Type 0
 Follows G bytes number store records = FollowsWith G bytes number store records (followed_text number (length records)) (length records + 1)
 
 -- the record fits a store with such a header
@@ -158,7 +152,7 @@ abbrev pub records_as : Header → List ShipRecord → List (List ShipLine)
 records_as header records = map (record_of (line_bytes header.directory.page)) records
 
 -- a record of these lines is begun, by one line after another
-pub record IsBegun (store now : KeptStore) (lines : List ShipLine) : Type 0 where
+pub record IsBegun (store now : StoreView) (lines : List ShipLine) : Type 0 where
   pub begun : List RecordLine
   pub now_is : now ≡ with_begun store begun
   pub lines_are : told begun ≡ lines
@@ -166,17 +160,17 @@ pub record IsBegun (store now : KeptStore) (lines : List ShipLine) : Type 0 wher
 
 -- a store with a record laid over it
 abbrev pub over : ℕ → FlatStore → List ShipLine → FlatStore
-over bytes store lines = record { directory = store.directory; bytes = laid bytes store.bytes lines }
+over bytes store lines = record { directory = store.directory; bytes = ship_laid bytes store.bytes lines }
 
 -- A crash left what stood, and what was printed before; or the store one record on, and of its line a first part.
-abbrev pub IsStep : (bytes number : ℕ) → FlatStore → List ShipLine → (printed : Option (List ℕ)) → (image seen : List ℕ) → Type 0
-IsStep bytes number store lines printed image seen =
+abbrev pub IsLeftBetween : (bytes number : ℕ) → FlatStore → List ShipLine → (printed : Option (List ℕ)) → (image seen : List ℕ) → Type 0
+IsLeftBetween bytes number store lines printed image seen =
     ((stands image ≡ Stands number store) × AreTold printed seen)
     ⊎ ((stands image ≡ Stands (next number) (over bytes store lines)) × SeesPart printed (kept_line (next number)) seen)
 
 -- how a record was kept and told: it stands, tracked, and its line is printed, by one put, or where that failed a first part of it; or the disk failed,
 -- and nothing was printed
-abbrev pub StepsBy : {W : Type 0} → Ghosts W → (bytes number : ℕ) → FlatStore → List ShipLine → KeptStore → W → W → Result (Unit {0}) Followed → Type 0
+abbrev pub StepsBy : {W : Type 0} → Ghosts W → (bytes number : ℕ) → FlatStore → List ShipLine → StoreView → W → W → Result (Unit {0}) Followed → Type 0
 StepsBy G bytes number store lines durable before after (Ok done) =
     TracksStore G durable after × (stands (held_of G after) ≡ Stands (next number) (over bytes store lines)) × Prints (G.printed before) (G.printed after) (kept_line (next number)) well × CountsPuts G 1 before after
 StepsBy G bytes number store lines durable before after (Err PutFault) =
@@ -185,43 +179,43 @@ StepsBy G bytes number store lines durable before after (Err DiskFault) = G.prin
 StepsBy G bytes number store lines durable before after (Err _) = ⊥
 
 -- what keeping a record of these lines did
-pub record Steps {W : Type 0} (G : Ghosts W) (bytes number : ℕ) (store : FlatStore) (lines : List ShipLine) (durable : KeptStore) (before after : W) (result : Result (Unit {0}) Followed) : Type 0 where
-  pub crash : Leaves G (IsStep bytes number store lines (G.printed before)) before after
+pub record Steps {W : Type 0} (G : Ghosts W) (bytes number : ℕ) (store : FlatStore) (lines : List ShipLine) (durable : StoreView) (before after : W) (result : Result (Unit {0}) Followed) : Type 0 where
+  pub crash : Leaves G (IsLeftBetween bytes number store lines (G.printed before)) before after
   pub ends : StepsBy G bytes number store lines durable before after result
 
 -- What committing these records did, with a line put for each, and the last.
-pub record FollowsAll {W : Type 0} (G : Ghosts W) (records : List ShipRecord) (was durable : KeptStore) (old new : W) (result : Result (Unit {0}) Followed) : Type 0 where
-  pub goes : GoesOn G was durable old new result
+pub record FollowsAll {W : Type 0} (G : Ghosts W) (records : List ShipRecord) (was durable : StoreView) (old new : W) (result : Result (Unit {0}) Followed) : Type 0 where
+  pub goes : KeepsFollowing G was durable old new result
   pub kept : OnOk result (durable.bank ≡ bank_behind was.bank (records_as was.header records))
-  pub follows : OfTracked G was old (λ store. Follows G (line_bytes was.header.directory.page) (number_of was) store (records_as was.header records) durable old new (followed_of result))
+  pub follows : OfTracked G was old (λ store. Follows G (line_bytes was.header.directory.page) (store_number was) store (records_as was.header records) durable old new (followed_of result))
 
 -- and with no last line
-pub record KeepsEach {W : Type 0} (G : Ghosts W) (records : List ShipRecord) (was durable : KeptStore) (old new : W) (result : Result (Unit {0}) Followed) : Type 0 where
-  pub goes : GoesOn G was durable old new result
-  pub number : OnOk result (number_of durable ≡ later (number_of was) (length records))
+pub record KeepsEach {W : Type 0} (G : Ghosts W) (records : List ShipRecord) (was durable : StoreView) (old new : W) (result : Result (Unit {0}) Followed) : Type 0 where
+  pub goes : KeepsFollowing G was durable old new result
+  pub number : OnOk result (store_number durable ≡ later (store_number was) (length records))
   pub kept : OnOk result (durable.bank ≡ bank_behind was.bank (records_as was.header records))
-  pub keeps : OfTracked G was old (λ store. Keeps G (line_bytes was.header.directory.page) (number_of was) store (records_as was.header records) durable old new (followed_of result))
+  pub keeps : OfTracked G was old (λ store. FollowKeeps G (line_bytes was.header.directory.page) (store_number was) store (records_as was.header records) durable old new (followed_of result))
 
 -- and one record
-pub record KeepsOne {W : Type 0} (G : Ghosts W) (sent : ShipRecord) (was durable : KeptStore) (old new : W) (result : Result (Unit {0}) Followed) : Type 0 where
-  pub goes : GoesOn G was durable old new result
+pub record KeepsOne {W : Type 0} (G : Ghosts W) (sent : ShipRecord) (was durable : StoreView) (old new : W) (result : Result (Unit {0}) Followed) : Type 0 where
+  pub goes : KeepsFollowing G was durable old new result
   pub usable : OnOk result (durable.bank.spoiled ≡ false)
-  pub number : OnOk result (number_of durable ≡ next (number_of was))
+  pub number : OnOk result (store_number durable ≡ next (store_number was))
   pub kept : OnOk result (durable.bank ≡ bank_with was.bank (record_of (line_bytes was.header.directory.page) sent))
-  pub steps : OfTracked G was old (λ store. Steps G (line_bytes was.header.directory.page) (number_of was) store (record_of (line_bytes was.header.directory.page) sent) durable old new result)
+  pub steps : OfTracked G was old (λ store. Steps G (line_bytes was.header.directory.page) (store_number was) store (record_of (line_bytes was.header.directory.page) sent) durable old new result)
 
 -- how a line was put
-abbrev pub put_of : {T E : Type 0} → Result T E → Result (Unit {0}) Failed
-put_of (Ok done) = well
-put_of (Err why) = broken
+abbrev pub put_result : {T E : Type 0} → Result T E → Result (Unit {0}) Failed
+put_result (Ok done) = well
+put_result (Err why) = broken
 
 -- What following a ship text on a store did. A refusal leaves all as it was, and a Done the bank of the commits: a checkpoint comes only in front of
 -- a record that doesn't fit. Of a tracked store a crash leaves it at a number of the text from there on, not one before a number that was told.
-pub record FollowsShip {W : Type 0} (G : Ghosts W) (ship : Ship) (old new : KeptStore) (before after : W) (how : Followed) : Type 0 where
-  pub found : FoundOf old.header (content_of ship) (number_of old) how
+pub record FollowsShip {W : Type 0} (G : Ghosts W) (ship : Ship) (old new : StoreView) (before after : W) (how : Followed) : Type 0 where
+  pub found : FoundOf old.header (ship_content ship) (store_number old) how
   pub refused : (how ≡ Geometry) ⊎ (how ≡ NotKept) ⊎ ((number : ℕ) × (how ≡ Long number)) → (new ≡ old) × (after ≡ before)
   pub only : OnlyGoesOn G before after
-  pub ends : EndsBy G before after how
+  pub ends : FollowEndsBy G before after how
   pub header : new.header ≡ old.header
-  pub kept : how ≡ Done → new.bank ≡ bank_behind old.bank (due (content_of ship) (number_of old))
-  pub follows : OfTracked G old before (λ store. Follows G (content_of ship).line_bytes (number_of old) store (due (content_of ship) (number_of old)) new before after how)
+  pub kept : how ≡ Done → new.bank ≡ bank_behind old.bank (due (ship_content ship) (store_number old))
+  pub follows : OfTracked G old before (λ store. Follows G (ship_content ship).line_bytes (store_number old) store (due (ship_content ship) (store_number old)) new before after how)

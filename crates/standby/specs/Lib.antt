@@ -1,7 +1,7 @@
 pub mod Below
 pub mod Text
 pub mod State
-pub mod Puts
+pub mod TextPut
 pub mod Followed
 pub mod Shipped
 pub mod Read

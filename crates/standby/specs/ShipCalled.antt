@@ -1,29 +1,29 @@
 -- What shipping the records of a store did.
 use Rattle.std.specs.Prelude.{◌≡◌, ◌≢◌, ◌⊎◌, ◌<◌, ◌≤◌, ℕ, [], IsSome, IsTrue}
-use Rattle.standby.specs.Below.{AreTold, AsksAndPuts, Call, Ghosts, held_of, IsFaultAt, IsOfOpening, KeptStore, Leaves, number_of, OnlyAsks, PrintsBy, Shows, Status}
-use Rattle.standby.specs.Puts.{CountsPuts}
+use Rattle.standby.specs.Below.{AreTold, AsksAndPuts, Called, Ghosts, held_of, IsFaultAt, IsOfOpening, StoreView, Leaves, store_number, OnlyAsks, PrintsBy, Shows, Status}
+use Rattle.standby.specs.TextPut.{CountsPuts}
 use Rattle.standby.specs.Read.{feeds}
 use Rattle.standby.specs.Shipped.{shipped}
 use Rattle.standby.specs.State.{behind}
-use Rattle.standby.specs.Text.{IsContent, text_of}
+use Rattle.standby.specs.Text.{IsContent, ship_text}
 use Rattle.call_status.specs.declared.status.Status.TheVariants as status
 
 -- The bytes show a store whose bank keeps all records behind the number, and their text was put: all of it, each line by one put, or a first part. At
 -- Done they are in the ranges of a ship text.
 pub record PutsText {W : Type 0} (G : Ghosts W) (from : ℕ) (before after : W) (now : Status) : Type 0 where
-  pub store : KeptStore
+  pub store : StoreView
   pub shows : Shows (held_of G before) store
   pub kept : behind store.bank.base from ≤ store.bank.count
-  pub printed : PrintsBy (G.printed before) (G.printed after) (text_of (shipped store shows.read.records from)) now
-  pub times : now ≡ Status.Done → CountsPuts G (feeds (text_of (shipped store shows.read.records from))) before after
+  pub printed : PrintsBy (G.printed before) (G.printed after) (ship_text (shipped store shows.read.records from)) now
+  pub times : now ≡ Status.Done → CountsPuts G (feeds (ship_text (shipped store shows.read.records from))) before after
   pub content : now ≡ Status.Done → IsContent (shipped store shows.read.records from)
 
 -- The bytes show a store whose bank has this base, and which has this number, and the bank doesn't keep all records behind the number asked for.
 pub record IsNotKept {W : Type 0} (G : Ghosts W) (from : ℕ) (before : W) (base number : ℕ) : Type 0 where
-  pub store : KeptStore
+  pub store : StoreView
   pub shows : Shows (held_of G before) store
   pub base_is : base ≡ store.bank.base
-  pub number_is : number ≡ number_of store
+  pub number_is : number ≡ store_number store
   pub behind_all : store.bank.count < behind store.bank.base from
 
 -- what it did, by the status, where the disk tells its bytes; other statuses don't come
@@ -38,7 +38,7 @@ ShippedBy G from before after _ = ⊥
 
 -- What it did; it writes nothing, each image that a crash may leave since is one of the start, and there is no order. Where the disk is honest and
 -- tells its bytes, each that is left once something is printed is just these. The disk's count of faults rises with DiskFault alone.
-pub record ShippedFrom {W : Type 0} (G : Ghosts W) (from : ℕ) (call : Call W) : Type 0 where
+pub record ShippedFrom {W : Type 0} (G : Ghosts W) (from : ℕ) (call : Called W) : Type 0 where
   pub no_order : call.order ≡ []
   pub only : AsksAndPuts G call.before call.after
   pub sure : IsTrue (G.is_honest call.before) → IsSome (G.held call.before) → Leaves G (λ image seen. AreTold (G.printed call.before) seen ⊎ (image ≡ held_of G call.before)) call.before call.after

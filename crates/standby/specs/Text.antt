@@ -12,7 +12,7 @@ pub record ShipLine : Type 0 where
   pub bytes : List ℕ
 
 -- what a ship text holds: the bytes of a line of the store, the number of its lines, the number from which the records go on, and these
-pub record Content : Type 0 where
+pub record ShipContent : Type 0 where
   pub line_bytes : ℕ
   pub lines : ℕ
   pub start : ℕ
@@ -36,8 +36,8 @@ record_line number count = codes "record " ++ decimal number ++ codes " " ++ dec
 abbrev pub line_line : ℕ → List ℕ → List ℕ
 line_line line bytes = codes "line " ++ decimal line ++ codes " " ++ encode_lower bytes ++ codes "\n"
 
-abbrev pub end_line : ℕ → List ℕ
-end_line number = codes "end " ++ decimal number ++ codes "\n"
+abbrev pub closing_line : ℕ → List ℕ
+closing_line number = codes "end " ++ decimal number ++ codes "\n"
 
 abbrev pub kept_line : ℕ → List ℕ
 kept_line number = codes "kept " ++ decimal number ++ codes "\n"
@@ -56,9 +56,9 @@ records_text number [] = []
 records_text number (lines ∷ records) = record_text (next number) lines ++ records_text (next number) records
 
 -- The text that holds this: its first line, the records, and the last number.
-abbrev pub text_of : Content → List ℕ
-text_of content =
-    head_line content.line_bytes content.lines content.start ++ records_text content.start content.records ++ end_line (later content.start (length content.records))
+abbrev pub ship_text : ShipContent → List ℕ
+ship_text content =
+    head_line content.line_bytes content.lines content.start ++ records_text content.start content.records ++ closing_line (later content.start (length content.records))
 
 -- the numbers of lines ascend from a least one on and lie below a bound, and each line has so many bytes
 abbrev pub AreLines : (line_bytes bound least : ℕ) → List ShipLine → Type 0
@@ -67,7 +67,7 @@ AreLines line_bytes bound least (line ∷ lines) =
     (least ≤ line.line) × (line.line < bound) × (length line.bytes ≡ line_bytes) × All (λ byte. byte < 256) line.bytes × AreLines line_bytes bound (line.line + 1) lines
 
 -- A text may hold this: the numbers are in their ranges, and so are the lines of each record.
-pub record IsContent (content : Content) : Type 0 where
+pub record IsContent (content : ShipContent) : Type 0 where
   pub some_bytes : 1 ≤ content.line_bytes
   pub few_bytes : content.line_bytes ≤ 65535
   pub few_lines : content.lines < 2 ^ 32
@@ -83,8 +83,8 @@ parted line_bytes (line ∷ lines) bytes = record { line = line; bytes = take li
 abbrev pub record_of : ℕ → ShipRecord → List ShipLine
 record_of line_bytes kept = parted line_bytes kept.lines.items kept.bytes.items
 
-abbrev pub content_of : Ship → Content
-content_of ship = record { line_bytes = ship.line_bytes; lines = ship.lines; start = ship.start; records = map (record_of ship.line_bytes) ship.records.items }
+abbrev pub ship_content : Ship → ShipContent
+ship_content ship = record { line_bytes = ship.line_bytes; lines = ship.lines; start = ship.start; records = map (record_of ship.line_bytes) ship.records.items }
 
 -- each line of a record has its bytes
 abbrev pub IsPacked : ℕ → ShipRecord → Type 0
@@ -92,13 +92,13 @@ IsPacked line_bytes kept = length kept.bytes.items ≡ line_bytes * length kept.
 
 -- Some text holds what the value does.
 pub record IsShip (ship : Ship) : Type 0 where
-  pub content : IsContent (content_of ship)
+  pub content : IsContent (ship_content ship)
   pub packed : All (IsPacked ship.line_bytes) ship.records.items
 
 -- the text holds what the value does
 pub record IsTextOf (text : List ℕ) (ship : Ship) : Type 0 where
   pub is_ship : IsShip ship
-  pub bytes : text ≡ text_of (content_of ship)
+  pub bytes : text ≡ ship_text (ship_content ship)
 
 -- lines of a bank's record, without their places
 abbrev pub told : List RecordLine → List ShipLine
@@ -106,4 +106,4 @@ told lines = map (λ one. record { line = one.line; bytes = one.bytes }) lines
 
 -- a text holds at most one content
 abbrev pub HoldsOne : Type 0
-HoldsOne = (one two : Content) → IsContent one → IsContent two → text_of one ≡ text_of two → one ≡ two
+HoldsOne = (one two : ShipContent) → IsContent one → IsContent two → ship_text one ≡ ship_text two → one ≡ two

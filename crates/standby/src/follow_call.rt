@@ -1,10 +1,10 @@
 // A ship text that a store follows.
 ghost use Rattle.standby.specs.Below.{Elapses, given, OnlyAsks};
-ghost use Rattle.standby.specs.Text.{IsShip, content_of};
-ghost use Rattle.standby.specs.FollowCalled.{EndsFollowing, FollowsFrom, GivesShip, IsRefusal, OnStore};
+ghost use Rattle.standby.specs.Text.{IsShip, ship_content};
+ghost use Rattle.standby.specs.FollowCalled.{EndsFollowing, FollowsFrom, GivesShip, IsUncommitted, OnStore};
 
 use super::following::{Followed, follow};
-use super::read::read_ship;
+use super::ship_reading::read_ship;
 use super::text::{Ship, ShipFault};
 use call_status::{MOST_OF_JOB, Status, read_text};
 use outside::{Outside, Source};
@@ -47,9 +47,9 @@ fn ship_from<S: Source>(alloc: Global, source: &mut S) -> Result<Ship, Status>
 /// Lets the disk's store follow a text.
 fn follow_text<W: Outside>(alloc: Global, ship: &Ship, outside: &mut W) -> Status
     requires { IsShip ship.now }
-    ensures on { OnStore W.Outside (content_of ship.now) outside.old outside.new result }
+    ensures on { OnStore W.Outside (ship_content ship.now) outside.old outside.new result }
     ensures time { Elapses W.moment W.left_since outside.old outside.new }
-    ensures refused { IsRefusal result → OnlyAsks W.Outside outside.old outside.new }
+    ensures refused { IsUncommitted result → OnlyAsks W.Outside outside.old outside.new }
     ensures ends { EndsFollowing W.Outside outside.old outside.new result }
 {
     let mut store = match Durable::open(alloc, outside) {

@@ -2,11 +2,11 @@
 ghost use Rattle.std.specs.Prelude.{◌≡◌, ◌↔◌, ◌+◌, ◌≤◌, ◌<◌, All, length, IsTrue, IfSome, IfNone, Err, OnErr};
 ghost use Rattle.standby.specs.Below.{IsUsable, line_bytes, total};
 ghost use Rattle.standby.specs.State.{IsLongAt, due};
-ghost use Rattle.standby.specs.Followed.{FollowsShip, IsAlike, FollowsAll, IsFitting, IsBegun, KeepsEach, KeepsOne, put_of};
-ghost use Rattle.standby.specs.Puts.{Puts};
-ghost use Rattle.standby.specs.Text.{IsShip, content_of, record_of};
+ghost use Rattle.standby.specs.Followed.{FollowsShip, IsAlike, FollowsAll, IsFitting, IsBegun, KeepsEach, KeepsOne, put_result};
+ghost use Rattle.standby.specs.TextPut.{PutsAtOnce};
+ghost use Rattle.standby.specs.Text.{IsShip, ship_content, record_of};
 
-use super::line::{fill_end, fill_kept};
+use super::ship_filling::{fill_end, fill_kept};
 use super::text::{Ship, ShipRecord};
 use outside::{Failed, Outside};
 use store::{Durable, Kept};
@@ -56,7 +56,7 @@ pub fn follow<W: Outside>(durable: &mut Durable, ship: &Ship, outside: &mut W) -
 
 /// Whether a text is of a store with as many lines, of the same size.
 fn is_alike(durable: &Durable, ship: &Ship) -> bool
-    ensures { IsTrue result ↔ IsAlike durable.now.header (content_of ship.now) }
+    ensures { IsTrue result ↔ IsAlike durable.now.header (ship_content ship.now) }
 {
     let header = durable.header();
     usize::from(ship.line_bytes) == header.line_bytes()
@@ -152,7 +152,7 @@ fn begin(durable: &mut Durable, sent: &ShipRecord)
 
 fn put_line<W: Outside>(line: &[u8], outside: &mut W) -> Result<(), Followed>
     ensures only { OnErr result (result ≡ Err Followed.PutFault) }
-    ensures puts { Puts W.Outside line.now outside.old outside.new (put_of result) }
+    ensures puts { PutsAtOnce W.Outside line.now outside.old outside.new (put_result result) }
 {
     match outside.put(line) {
         Ok(()) => Ok(()),

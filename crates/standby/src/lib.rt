@@ -2,20 +2,20 @@
 //! and `follow`.
 #![tactic(auto)]
 
+mod digit_reading;
 mod follow_call;
 mod following;
-mod law;
-mod line;
-mod read;
 mod ship_call;
+mod ship_filling;
+mod ship_law;
+mod ship_reading;
 mod shipping;
 mod text;
-mod word;
 
 pub use follow_call::follow_source;
 pub use following::{Followed, follow};
-pub use law::a_text_holds_one_content;
-pub use read::read_ship;
 pub use ship_call::ship_store;
+pub use ship_law::a_text_holds_one_content;
+pub use ship_reading::read_ship;
 pub use shipping::{Shipped, ship};
 pub use text::{Ship, ShipFault, ShipRecord};

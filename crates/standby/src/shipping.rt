@@ -1,13 +1,13 @@
 // The records of a bank behind a number, put as a text.
 ghost use Rattle.std.specs.Prelude.{◌≡◌, ◌+◌, ◌<◌, ◌⊎◌, Err, OnErr};
 ghost use Rattle.standby.specs.Below.{IsUsable, line_count, record_bytes, total};
-ghost use Rattle.standby.specs.Puts.{Puts};
+ghost use Rattle.standby.specs.TextPut.{PutsAtOnce};
 ghost use Rattle.standby.specs.Shipped.{FindsPlace, MayShip, ShipsContent, ShipsLine, ShipsRecord, ShipsRecords, ShipsStore, shipped};
 ghost use Rattle.standby.specs.State.{behind};
-ghost use Rattle.standby.specs.Followed.{put_of};
+ghost use Rattle.standby.specs.Followed.{put_result};
 ghost use Rattle.standby.specs.Text.{later};
 
-use super::line::{fill_end, fill_head, fill_line, fill_record};
+use super::ship_filling::{fill_end, fill_head, fill_line, fill_record};
 use outside::{Failed, Outside};
 use store::{Durable, Record};
 use text_line::TextLine;
@@ -172,7 +172,7 @@ fn put_one<W: Outside>(
 
 fn put_line<W: Outside>(line: &[u8], outside: &mut W) -> Result<(), Shipped>
     ensures only { OnErr result (result ≡ Err Shipped.PutFault) }
-    ensures puts { Puts W.Outside line.now outside.old outside.new (put_of result) }
+    ensures puts { PutsAtOnce W.Outside line.now outside.old outside.new (put_result result) }
 {
     match outside.put(line) {
         Ok(()) => Ok(()),

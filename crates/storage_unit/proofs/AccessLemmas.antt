@@ -1,5 +1,5 @@
 -- Where an access that is permitted begins.
-use Rattle.storage_unit.proofs.Common.{◌≡◌, ℕ, Bool, false, sym, ◌∙◌, subst, Ok, Virtual, located_by, Probe, answered, access_to, Reach, is_in_frame, refuses, IsSound, Lies, AreThere}
+use Rattle.storage_unit.proofs.Common.{◌≡◌, ℕ, Bool, false, sym, ◌∙◌, subst, Ok, Virtual, located_by, Probe, answered, access_to, Reach, is_in_frame, refuses_byte, IsReachSound, Lies, AreThere}
 use Rattle.storage_unit.proofs.PlaceLemmas.{Under, under, lies, first-byte}
 use Rattle.storage_unit.proofs.AnswerLemmas.{permitted-located, permitted-bytes}
 
@@ -9,11 +9,11 @@ pub record Begins (state : Reach) (address n : ℕ) (at : Virtual) : Type 0 wher
   pub lies : Lies state at n
   pub there : AreThere state at n
 
-module _ (state : Reach) (sound : IsSound state) (address n : ℕ) (store : Bool) where
-  found : answered state.registers (is_in_frame state) (refuses state) (access_to address n store) ≡ Probe.Permitted → (at : Virtual) × (located_by state.registers address n store ≡ Ok at)
-  found permitted = permitted-located state.registers (is_in_frame state) (refuses state) (access_to address n store) permitted
+module _ (state : Reach) (sound : IsReachSound state) (address n : ℕ) (store : Bool) where
+  found : answered state.registers (is_in_frame state) (refuses_byte state) (access_to address n store) ≡ Probe.Permitted → (at : Virtual) × (located_by state.registers address n store ≡ Ok at)
+  found permitted = permitted-located state.registers (is_in_frame state) (refuses_byte state) (access_to address n store) permitted
 
-  pub begins : (at : Virtual) → answered state.registers (is_in_frame state) (refuses state) (access_to address n store) ≡ Probe.Permitted → located_by state.registers address 0 false ≡ Ok at → Begins state address n at
+  pub begins : (at : Virtual) → answered state.registers (is_in_frame state) (refuses_byte state) (access_to address n store) ≡ Probe.Permitted → located_by state.registers address 0 false ≡ Ok at → Begins state address n at
   begins at permitted is =
       let (v, lies_at) = found permitted in
       let here = sym (first-byte state sound address n store v lies_at) ∙ is in

@@ -1,5 +1,5 @@
 -- What is shown before and after a store.
-use Rattle.storage_unit.proofs.Common.{◌≡◌, ℕ, ◌+◌, ◌-◌, ◌*◌, ◌/◌, ◌%◌, ◌<◌, ◌≤◌, true, false, List, length, refl, sym, ◌∙◌, ap, arith, Option, Some, None, Result, Ok, Err, slice_index, is_some, option_map_or, nat_tests, get_or-map-range_with_len, length-map-range_with_len, same_number_lists, overlaid, PageSize, page_bytes, start_of, page_of, Located, Private, Shared, Refused, Check, Virtual, virtual_at, bytes_on, located_by, Key, key_to, frame_at, Access, IsOutside, answer_in, bytes_from, Reach, private_segment, offset_of, place_of, place_at, on, key_of_page, AreReached, byte_in_frame, byte_of, byte_at, is_there, is_in_frame, refuses, put_byte, put_in_store, put_at, IsSound, Lies, AreThere, bytes_shown}
+use Rattle.storage_unit.proofs.Common.{◌≡◌, ℕ, ◌+◌, ◌-◌, ◌*◌, ◌/◌, ◌%◌, ◌<◌, ◌≤◌, true, false, List, length, refl, sym, ◌∙◌, ap, arith, Option, Some, None, Result, Ok, Err, slice_index, is_some, option_map_or, nat_tests, get_or-map-range_with_len, length-map-range_with_len, same_number_lists, overlaid, PageSize, page_bytes, start_of, page_of, Located, Private, Shared, Refused, Check, Virtual, virtual_at, bytes_on, located_by, Key, key_to, frame_at, Access, IsOutside, answer_in, bytes_from, Reach, private_segment, offset_of, byte_place, place_at, on, key_of_page, AreReached, byte_in_frame, byte_of, byte_at, is_there, is_in_frame, refuses_byte, put_byte, put_in_store, put_at, IsReachSound, Lies, AreThere, bytes_shown}
 use Rattle.storage_unit.proofs.SizeLemmas.{rest-below, place-is, frame-high, page-of-line}
 use Rattle.storage_unit.proofs.KeyLemmas.{key-of-place}
 use Rattle.storage_unit.proofs.FillLemmas.{over-part, in-part}
@@ -9,22 +9,22 @@ use Rattle.storage_unit.proofs.PutLemmas.{put-inside, put-outside, spot-none, pl
 use Rattle.storage_unit.proofs.StoreLemmas.{frame-room, all-private, frame-below, low-frame}
 
 -- a range that is shown, byte by byte
-pub range-shown : (state : Reach) (sound : IsSound state) (address n : ℕ) (at : Virtual) (u : Under state.registers address n at)
-    → bytes_shown state (place_of state.directory at) n ≡ bytes_from (byte_at state) address n
+pub range-shown : (state : Reach) (sound : IsReachSound state) (address n : ℕ) (at : Virtual) (u : Under state.registers address n at)
+    → bytes_shown state (byte_place state.directory at) n ≡ bytes_from (byte_at state) address n
 range-shown state sound address n at u =
-    same_number_lists (bytes_shown state (place_of state.directory at) n) (bytes_from (byte_at state) address n)
-    (shown-long state (place_of state.directory at) n ∙ sym (length-map-range_with_len (byte_at state) address n))
+    same_number_lists (bytes_shown state (byte_place state.directory at) n) (bytes_from (byte_at state) address n)
+    (shown-long state (byte_place state.directory at) n ∙ sym (length-map-range_with_len (byte_at state) address n))
     (λ k below.
-    let small : k < n = omega (arith, below, shown-long state (place_of state.directory at) n) in
-    cc (shown-at state (place_of state.directory at) n k small, byte-on state sound address n at u k small, get_or-map-range_with_len (byte_at state) address n k (address + k) 0 small refl))
+    let small : k < n = omega (arith, below, shown-long state (byte_place state.directory at) n) in
+    cc (shown-at state (byte_place state.directory at) n k small, byte-on state sound address n at u k small, get_or-map-range_with_len (byte_at state) address n k (address + k) 0 small refl))
 
 -- bytes that are put are put in frames that have room
-pub private-room : (state : Reach) (sound : IsSound state) (at : Virtual) (n a : ℕ) → Lies state at n → place_of state.directory at ≡ Private a
+pub private-room : (state : Reach) (sound : IsReachSound state) (at : Virtual) (n a : ℕ) → Lies state at n → byte_place state.directory at ≡ Private a
     → ((state.runner - 1) * 16384 + a + n ≤ 262144) × (262144 ≤ length state.pool.bytes)
 private-room state sound at n a lies is = grind (arith, nat_tests)
 
 -- where a byte of the store is shown, its page is in a frame
-pub there-frame : (state : Reach) (sound : IsSound state) (place : ℕ) → is_there state (Shared place) ≡ true → (frame : ℕ) × (frame_at state.pool (page_of state.directory place) ≡ Some frame)
+pub there-frame : (state : Reach) (sound : IsReachSound state) (place : ℕ) → is_there state (Shared place) ≡ true → (frame : ℕ) × (frame_at state.pool (page_of state.directory place) ≡ Some frame)
 there-frame state sound place there = by_frame (frame_at state.pool (page_of state.directory place)) refl
     (sym (ap (λ p. is_some (frame_at state.pool p)) (page-of-line state.directory.page place)) ∙ there)
   where
@@ -33,7 +33,7 @@ there-frame state sound place there = by_frame (frame_at state.pool (page_of sta
     by_frame None is some = absurd (let clash : false ≡ true = sym (ap (λ (o : Option ℕ). is_some o) is) ∙ some in cc)
 
 -- what a place of the store in a frame shows after bytes were put
-pub shared-after : (state : Reach) (sound : IsSound state) (from : ℕ) (bytes : List ℕ) (place frame : ℕ) → frame_at state.pool (page_of state.directory place) ≡ Some frame
+pub shared-after : (state : Reach) (sound : IsReachSound state) (from : ℕ) (bytes : List ℕ) (place frame : ℕ) → frame_at state.pool (page_of state.directory place) ≡ Some frame
     → byte_of (put_at state (Shared from) bytes) (Shared place) ≡ put_byte bytes from place (byte_of state (Shared place))
 shared-after state sound from bytes place frame is =
     let there = sound.fits.seen.there (page_of state.directory place) frame is in
@@ -41,12 +41,12 @@ shared-after state sound from bytes place frame is =
     ∙ place-put state.directory state.pool from bytes place frame there (frame-room state sound frame (frame-below state sound (page_of state.directory place) frame there).1)
     ∙ ap (put_byte bytes from place) (sym (ap (λ (o : Option ℕ). option_map_or (byte_in_frame state.directory state.pool place) o 0) is))
 
-module _ (state : Reach) (sound : IsSound state) (address : ℕ) (bytes : List ℕ) (at : Virtual) (u : Under state.registers address (length bytes) at) (there : AreThere state at (length bytes)) where
+module _ (state : Reach) (sound : IsReachSound state) (address : ℕ) (bytes : List ℕ) (at : Virtual) (u : Under state.registers address (length bytes) at) (there : AreThere state at (length bytes)) where
   abbrev n : ℕ
   n = length bytes
 
   -- each byte of the range shows what was stored
-  shown-after : (place : Located) → place_of state.directory at ≡ place → (k : ℕ) → k < length bytes → byte_of (put_at state place bytes) (on place k) ≡ slice_index bytes k
+  shown-after : (place : Located) → byte_place state.directory at ≡ place → (k : ℕ) → k < length bytes → byte_of (put_at state place bytes) (on place k) ≡ slice_index bytes k
   shown-after (Private a) is k below =
       let (room, all) = private-room state sound at n a (lies state sound address n at u) is in
       let sum : (state.runner - 1) * 16384 + (a + k) ≡ (state.runner - 1) * 16384 + a + k = omega arith in
@@ -60,7 +60,7 @@ module _ (state : Reach) (sound : IsSound state) (address : ℕ) (bytes : List �
       ∙ ap (slice_index bytes) back
   shown-after (Refused code) is k below = absurd (never-refused state.directory at code is)
 
-  after-at : (place : Located) → place_of state.directory at ≡ place → (k : ℕ) → k < length bytes → byte_at (put_at state place bytes) (address + k) ≡ slice_index bytes k
+  after-at : (place : Located) → byte_place state.directory at ≡ place → (k : ℕ) → k < length bytes → byte_at (put_at state place bytes) (address + k) ≡ slice_index bytes k
   after-at (Private a) is k below =
       ap (λ located. byte_of (put_at state (Private a) bytes) (place_at state.directory located)) (part state sound address n at u k 1 (omega arith))
       ∙ ap (byte_of (put_at state (Private a) bytes)) (place-on state.directory at k ∙ ap (λ p. on p k) is)
@@ -71,7 +71,7 @@ module _ (state : Reach) (sound : IsSound state) (address : ℕ) (bytes : List �
       ∙ shown-after (Shared a) is k below
   after-at (Refused code) is k below = absurd (never-refused state.directory at code is)
 
-  pub shows : bytes_from (byte_at (put_at state (place_of state.directory at) bytes)) address (length bytes) ≡ bytes
+  pub shows : bytes_from (byte_at (put_at state (byte_place state.directory at) bytes)) address (length bytes) ≡ bytes
   shows = grind (arith, nat_tests, same_number_lists, length-map-range_with_len, get_or-map-range_with_len, after-at)
 
   module _ (other : ℕ) (outside : IsOutside state.registers address (length bytes) other) where
@@ -89,7 +89,7 @@ module _ (state : Reach) (sound : IsSound state) (address : ℕ) (bytes : List �
     on-itself k = ap (virtual_at page at.segment) (sym (offset-is page at.segment (offset_of page at + k)))
 
     -- one that lies where a byte of the range does is that byte
-    same-private : (v : Virtual) (a b k : ℕ) → located_by state.registers other 1 false ≡ Ok v → place_of state.directory at ≡ Private a → place_of state.directory v ≡ Private b → b ≡ a + k → v ≡ bytes_on state.directory.page at k
+    same-private : (v : Virtual) (a b k : ℕ) → located_by state.registers other 1 false ≡ Ok v → byte_place state.directory at ≡ Private a → byte_place state.directory v ≡ Private b → b ≡ a + k → v ≡ bytes_on state.directory.page at k
     same-private v a b k found at_is v_is same =
         let w = under state.registers other 1 false v found in
         let (own, offset) = is-private state.directory at a at_is in
@@ -99,7 +99,7 @@ module _ (state : Reach) (sound : IsSound state) (address : ℕ) (bytes : List �
         let sum : offset_of page (bytes_on page at k) ≡ offset_of page at + k = offset-is page at.segment (offset_of page at + k) in
         same-virtual v (bytes_on page at k) (itself state sound other 1 v w) (on-itself k) (omega (arith, segment, segment', runner, runner')) (omega (arith, offset, offset', same, sum))
 
-    same-shared : (v : Virtual) (a b k : ℕ) → k < length bytes → located_by state.registers other 1 false ≡ Ok v → place_of state.directory at ≡ Shared a → place_of state.directory v ≡ Shared b → b ≡ a + k → v ≡ bytes_on state.directory.page at k
+    same-shared : (v : Virtual) (a b k : ℕ) → k < length bytes → located_by state.registers other 1 false ≡ Ok v → byte_place state.directory at ≡ Shared a → byte_place state.directory v ≡ Shared b → b ≡ a + k → v ≡ bytes_on state.directory.page at k
     same-shared v a b k below found at_is v_is same =
         let w = under state.registers other 1 false v found in
         let (own, place) = is-shared state.directory at a at_is in
@@ -116,10 +116,10 @@ module _ (state : Reach) (sound : IsSound state) (address : ℕ) (bytes : List �
         same-virtual v (bytes_on page at k) (itself state sound other 1 v w) (on-itself k) (sym segments) (omega (arith, one, starts, sum))
 
     -- private bytes aren't in frames of the store
-    private-spot : (v : Virtual) (b : ℕ) → located_by state.registers other 1 false ≡ Ok v → place_of state.directory v ≡ Private b → (state.runner - 1) * 16384 + b < 262144
+    private-spot : (v : Virtual) (b : ℕ) → located_by state.registers other 1 false ≡ Ok v → byte_place state.directory v ≡ Private b → (state.runner - 1) * 16384 + b < 262144
     private-spot v b found is = let (room, all) = private-room state sound v 1 b (lies state sound other 1 v (under state.registers other 1 false v found)) is in omega (arith, room)
 
-    by_place : (place target : Located) (v : Virtual) → place_of state.directory at ≡ place → located_by state.registers other 1 false ≡ Ok v → place_of state.directory v ≡ target
+    by_place : (place target : Located) (v : Virtual) → byte_place state.directory at ≡ place → located_by state.registers other 1 false ≡ Ok v → byte_place state.directory v ≡ target
         → byte_of (put_at state place bytes) target ≡ byte_of state target
     by_place (Private a) (Private b) v is found v_is =
         let (room, all) = private-room state sound at n a (lies state sound address n at u) is in
@@ -155,20 +155,20 @@ module _ (state : Reach) (sound : IsSound state) (address : ℕ) (bytes : List �
     by_place (Refused code) target v is found v_is = refl
 
     -- other addresses show what they showed
-    pub others-stay : byte_at (put_at state (place_of state.directory at) bytes) other ≡ byte_at state other
-    others-stay = by_whole (place_of state.directory at) refl (located_by state.registers other 1 false) refl
+    pub others-stay : byte_at (put_at state (byte_place state.directory at) bytes) other ≡ byte_at state other
+    others-stay = by_whole (byte_place state.directory at) refl (located_by state.registers other 1 false) refl
       where
-        by_whole : (place : Located) → place_of state.directory at ≡ place → (found : Result Virtual Check) → located_by state.registers other 1 false ≡ found
+        by_whole : (place : Located) → byte_place state.directory at ≡ place → (found : Result Virtual Check) → located_by state.registers other 1 false ≡ found
             → byte_at (put_at state place bytes) other ≡ byte_at state other
-        by_whole (Private a) is (Ok v) found = cc (by_place (Private a) (place_of state.directory v) v is found refl)
-        by_whole (Shared a) is (Ok v) found = cc (by_place (Shared a) (place_of state.directory v) v is found refl)
+        by_whole (Private a) is (Ok v) found = cc (by_place (Private a) (byte_place state.directory v) v is found refl)
+        by_whole (Shared a) is (Ok v) found = cc (by_place (Shared a) (byte_place state.directory v) v is found refl)
         by_whole (Private a) is (Err check) found = cc
         by_whole (Shared a) is (Err check) found = cc
         by_whole (Refused code) is found same = refl
 
 -- no access gets another answer
 pub answers-stay : (state : Reach) (place : Located) (bytes : List ℕ) (access : Access)
-    → answer_in (λ (s : Reach). s.registers) is_in_frame refuses (put_at state place bytes) access ≡ answer_in (λ (s : Reach). s.registers) is_in_frame refuses state access
+    → answer_in (λ (s : Reach). s.registers) is_in_frame refuses_byte (put_at state place bytes) access ≡ answer_in (λ (s : Reach). s.registers) is_in_frame refuses_byte state access
 answers-stay state (Private a) bytes access = refl
 answers-stay state (Shared a) bytes access = refl
 answers-stay state (Refused code) bytes access = refl

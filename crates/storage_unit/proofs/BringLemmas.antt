@@ -1,5 +1,5 @@
 -- The bytes that a pool shows once a page came in and its frame was filled.
-use Rattle.storage_unit.proofs.Common.{◌≡◌, ◌≢◌, ℕ, ◌+◌, ◌*◌, ◌/◌, ◌%◌, ◌<◌, ◌≤◌, false, List, [], length, refl, sym, ◌∙◌, ap, subst, arith, Option, Some, None, All, if◌then◌else◌, slice_index, slice_index_or, slice_set, option_to_list, option_map_or, get_or-set_same, get_or-set_other, overlaid, length-overlaid, page_bytes, Layout, page_count, page_of, IsOfPage, has, Pool, frame_count, line_size, frame_at, page_at, marks_at, with_room, Brought, page_part, lines-below, is_marked, byte_in_frame, byte_over, IsClean, Fits, filled, nat_tests}
+use Rattle.storage_unit.proofs.Common.{◌≡◌, ◌≢◌, ℕ, ◌+◌, ◌*◌, ◌/◌, ◌%◌, ◌<◌, ◌≤◌, false, List, [], length, refl, sym, ◌∙◌, ap, subst, arith, Option, Some, None, All, if◌then◌else◌, slice_index, slice_index_or, slice_set, option_to_list, option_map_or, get_or-set_same, get_or-set_other, overlaid, length-overlaid, page_bytes, Layout, page_count, page_of, IsOfPage, has, Pool, frame_count, line_size, frame_at, page_at, marks_at, with_room, Brought, page_part, lines-below, is_marked, byte_in_frame, byte_over, IsClean, PoolFits, frame_filled, nat_tests}
 use Rattle.lines.specs.Resident.{brought}
 use Rattle.storage_unit.proofs.SizeLemmas.{rest-below, place-is, spot-same}
 use Rattle.storage_unit.proofs.ByteLemmas.{over-some, marked-is}
@@ -7,7 +7,7 @@ use Rattle.storage_unit.proofs.LeaveLemmas.{Fewer, room-fewer}
 use Rattle.storage_unit.proofs.FillLemmas.{over-part, in-part, lines_over, lines-long, lines-here, lines-elsewhere, fold-laid}
 
 module _ (d : Layout) (old new : Pool) (committed bytes : List ℕ) (page : ℕ) (keep : Option ℕ) (frame : ℕ)
-    (fits : Fits d old) (clean : IsClean d old committed) (within : page < page_count d) (absent : has old.resident page ≡ false)
+    (fits : PoolFits d old) (clean : IsClean d old committed) (within : page < page_count d) (absent : has old.resident page ≡ false)
     (came : Brought old new page keep frame) (long : length bytes ≡ page_bytes d.page) where
   -- the pool when another page has gone out
   abbrev pub room : Pool
@@ -69,7 +69,7 @@ module _ (d : Layout) (old new : Pool) (committed bytes : List ℕ) (page : ℕ)
   frame-elsewhere other apart = get_or-set_other room.frame_of page other (Some frame) None (λ e. apart (sym e))
 
   -- the pool that came in and was filled
-  pub filled-is : filled new page frame bytes ≡ full
+  pub filled-is : frame_filled new page frame bytes ≡ full
   filled-is = grind (arith, nat_tests, frame-here, fold-laid, kept-there)
 
   -- what it shows of the page

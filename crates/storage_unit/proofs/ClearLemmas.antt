@@ -1,5 +1,5 @@
 -- The private bytes behind those that were used stay zeros.
-use Rattle.storage_unit.proofs.Common.{◌≡◌, ℕ, ◌+◌, ◌-◌, ◌*◌, ◌<◌, ◌≤◌, true, false, List, ◌++◌, length, replicate, ◌∙◌, ap, arith, inl, inr, cases_eq, cases_lt, slice_index, slice_range, slice_set, get_or-set_same, get_or-set_other, get_or-replicate, get_or_past, get_or-append_right, length-set, length-append, length-replicate, length-take, length-drop, overlaid, Virtual, Reach, is_private, offset_of, place_of, put_at, IsSound, Lies, AreClear, AreUsed, nat_tests}
+use Rattle.storage_unit.proofs.Common.{◌≡◌, ℕ, ◌+◌, ◌-◌, ◌*◌, ◌<◌, ◌≤◌, true, false, List, ◌++◌, length, replicate, ◌∙◌, ap, arith, inl, inr, cases_eq, cases_lt, slice_index, slice_range, slice_set, get_or-set_same, get_or-set_other, get_or-replicate, get_or_past, get_or-append_right, length-set, length-append, length-replicate, length-take, length-drop, overlaid, Virtual, Reach, is_private, offset_of, byte_place, put_at, IsReachSound, Lies, AreClear, AreUsed, nat_tests}
 use Rattle.storage_unit.proofs.ByteLemmas.{in-range}
 use Rattle.storage_unit.proofs.FillLemmas.{over-part, in-part}
 use Rattle.storage_unit.proofs.ReadyLemmas.{put-low}
@@ -14,9 +14,9 @@ clear-kept used old new same clear = record {
 
 -- bytes are put
 pub clear-put :
-    (state : Reach) (sound : IsSound state) (at : Virtual) (bytes : List ℕ) → Lies state at (length bytes) → (used after : List ℕ) → AreClear used state.pool.bytes
+    (state : Reach) (sound : IsReachSound state) (at : Virtual) (bytes : List ℕ) → Lies state at (length bytes) → (used after : List ℕ) → AreClear used state.pool.bytes
     → (is_private at.segment ≡ false → after ≡ used) → (is_private at.segment ≡ true → AreUsed used after (at.segment - 3840) (offset_of state.directory.page at + length bytes))
-    → AreClear after (put_at state (place_of state.directory at) bytes).pool.bytes
+    → AreClear after (put_at state (byte_place state.directory at) bytes).pool.bytes
 clear-put state sound at bytes lies used after clear stays more = grind (arith, nat_tests, clear-kept, put-low)
 
 -- the bytes of one seat

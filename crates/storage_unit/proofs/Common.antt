@@ -20,11 +20,11 @@ pub use Rattle.frame_pool.proofs.LendLemmas.{lent-part}
 pub use Rattle.frame_pool.proofs.PoolLemmas.{gone-from, lines-below}
 pub use Rattle.frame_pool.proofs.SeenLemmas.{Stays, frame-long, gone-absent, gone-frame, gone-stays, seen-gone, seen-lent, seen-marked, some-within}
 pub use Rattle.frame_pool.proofs.SoundLemmas.{page_part}
-pub use Rattle.frame_pool.specs.Pool.{Brought, emptied, frame_at, frame_bytes, gone, paging_after, laid, line_kept, line_laid, lines_of_part, marked_in, marks_at, page_at, page_out, part_of, settled, with_bytes, with_marks, with_room}
+pub use Rattle.frame_pool.specs.Pool.{Brought, pool_emptied, frame_at, frame_bytes, gone, paging_after, kept_laid, line_kept, line_laid, lines_of_part, marked_in, marks_at, page_at, page_out, frame_part, settled, with_bytes, with_marks, with_room}
 pub use Rattle.frame_pool.specs.PoolLending.{with_frame_part}
 pub use Rattle.frame_pool.specs.Seen.{IsSeen}
 pub use Rattle.frame_pool.specs.Sizes.{frame_count, line_place, line_size, private_frames}
-pub use Rattle.frame_pool.specs.declared.model.Pool.{Pool}
+pub use Rattle.frame_pool.specs.declared.pool_model.Pool.{Pool}
 pub use Rattle.page_table.proofs.FindLemmas.{is-held, look_up-held, look_up-is, look_up-none}
 pub use Rattle.page_table.specs.Keys.{key_of, key_to}
 pub use Rattle.page_table.specs.Placed.{Placed, cleared_entry, entered, entry_at, key_in, look_up, unowned, without_frame}
@@ -32,10 +32,10 @@ pub use Rattle.page_table.specs.declared.key.Key.{Key}
 pub use Rattle.lines.proofs.LineSetLemmas.{is_in_where-below, of_page_where, where-alike, bits_of-lines}
 pub use Rattle.lines.proofs.WithinLemmas.{byte_count_pages, segment-within}
 pub use Rattle.lines.specs.Directory.{Layout, byte_count, length_of, page_count, start_of}
-pub use Rattle.lines.specs.Legal.{IsLegal}
+pub use Rattle.lines.specs.Legal.{AreSegmentsLegal}
 pub use Rattle.lines.specs.LineSets.{IsOfPage, between, difference, lines_where, union, bits_of, lines_of_bits}
 unfoldable pub use Rattle.lines.specs.LineSets.{passing}
-pub use Rattle.lines.specs.Lines.{line_of, page_of}
+pub use Rattle.lines.specs.FlatLines.{line_of, page_of}
 pub use Rattle.lines.specs.Segments.{bytes_of, is_named, line_bytes, page_bytes}
 pub use Rattle.lines.specs.declared.line_geometry.PageSize.{PageSize}
 pub use Rattle.lines.specs.declared.line_geometry.PageSize.TheVariants.{Four, Two}
@@ -66,13 +66,13 @@ pub use Rattle.page_table.specs.Buffer.{IsOfTable, after_found, forgotten, found
 pub use Rattle.page_table.specs.declared.tlb_model.Pair.{Pair}
 pub use Rattle.storage_unit.specs.Bytes.{IsClean, byte_in_frame, byte_over, bytes_over, is_line_marked, is_marked, private_bytes}
 pub use Rattle.storage_unit.specs.Held.{AreOfPages, AreReached, IsUnder, first_keys, held_in, held_private, keys_of, keys_with, keys_without, pages_begun, seat_pages, table_of}
-pub use Rattle.storage_unit.specs.Laws.{BringKeeps, CommitIsUnseen, EmptyKeeps, FailedBringKeeps, Fits, Keeps, SettleKeeps, UndoForgets, filled, is_among, page_in}
-pub use Rattle.storage_unit.specs.Places.{is_private, key_among, key_of_page, offset_of, on, place_at, place_of, private_segment}
-pub use Rattle.storage_unit.specs.Reach.{byte_at, byte_of, is_in_frame, is_kept_from, is_refused, is_resident, is_there, marks_put, put_at, put_byte, put_in_store, refuses, seat_of, spot_put, stored}
-pub use Rattle.storage_unit.specs.Reached.{AreThere, IsSound, Lies, bytes_shown, is_absent}
+pub use Rattle.storage_unit.specs.PoolLaws.{BringKeeps, CommitIsUnseen, EmptyKeeps, FailedBringKeeps, PoolFits, PoolKeeps, SettleKeeps, UndoForgets, frame_filled, is_among, page_bytes_in}
+pub use Rattle.storage_unit.specs.Places.{is_private, key_among, key_of_page, offset_of, on, place_at, byte_place, private_segment}
+pub use Rattle.storage_unit.specs.Reach.{byte_at, byte_of, is_in_frame, is_kept_from, is_refused, is_resident, is_there, marks_put, put_at, put_byte, put_in_store, refuses_byte, seat_selected, spot_put, stored}
+pub use Rattle.storage_unit.specs.Reached.{AreThere, IsReachSound, Lies, bytes_shown, is_absent}
 pub use Rattle.storage_unit.specs.Rows.{ChangesBytes, GoesOpen, HasWindows, IsOpen, IsOpenLine, IsRow, IsShutOut, LeavesSeats, MarksWritten, StaysClean, plain_over}
 pub use Rattle.storage_unit.specs.View.{buffer_of, reach_of}
-pub use Rattle.storage_unit.specs.declared.model.Reach.{Reach}
+pub use Rattle.storage_unit.specs.declared.unit_model.Reach.{Reach}
 pub use Rattle.storage_unit.specs.declared.unit.Unit.{Unit}
 pub use Rattle.byteorder.specs.Endian.{big_number}
 pub use Rattle.frame_pool.proofs.LayLemmas.{all-lines, laid-anyway, overlaid-joined}
@@ -80,5 +80,5 @@ pub use Rattle.page_table.specs.declared.open_lines.OpenLine.{OpenLine}
 pub use Rattle.ready_rows.specs.Known.{known}
 pub use Rattle.ready_rows.specs.declared.rows.ReadyRows.{ReadyRows}
 pub use Rattle.storage_unit.specs.Cleared.{AreClear, AreUsed}
-pub use Rattle.storage_unit.specs.OpenLines.{AreMarked, AreOpened, IsOpenAt, IsOpenFrom, IsOpened, is_marked_at, lets_at}
+pub use Rattle.storage_unit.specs.OpenLines.{AreMarked, AreOpened, IsOpenAt, IsOpenFrom, IsLineOpened, is_marked_at, lets_at}
 pub use Rattle.storage_unit.specs.ReadyRows.{AreReady, after_store, private_byte, private_half}

@@ -1,5 +1,5 @@
 -- Bytes that are copied out of frames are those that are shown.
-use Rattle.storage_unit.proofs.Common.{◌≡◌, ℕ, ◌+◌, ◌-◌, ◌*◌, ◌/◌, ◌%◌, ◌<◌, ◌≤◌, true, false, ◌++◌, length, sym, ◌∙◌, ap, arith, Option, Some, None, inl, inr, slice_index, slice_range, is_some, option_map_or, length-append, length-take, length-drop, get_or_append_left, get_or-append_right, get_or-map-range_with_len, length-map-range_with_len, cases_lt, cases_Bool, same_number_lists, page_bytes, start_of, page_of, Located, Virtual, key_of, look_up, frame_at, part_of, frame_count, page_part, look_up-held, Reach, is_private, offset_of, place_of, on, seat_pages, table_of, byte_of, IsSound, Lies, AreThere, bytes_shown, nat_tests}
+use Rattle.storage_unit.proofs.Common.{◌≡◌, ℕ, ◌+◌, ◌-◌, ◌*◌, ◌/◌, ◌%◌, ◌<◌, ◌≤◌, true, false, ◌++◌, length, sym, ◌∙◌, ap, arith, Option, Some, None, inl, inr, slice_index, slice_range, is_some, option_map_or, length-append, length-take, length-drop, get_or_append_left, get_or-append_right, get_or-map-range_with_len, length-map-range_with_len, cases_lt, cases_Bool, same_number_lists, page_bytes, start_of, page_of, Located, Virtual, key_of, look_up, frame_at, frame_part, frame_count, page_part, look_up-held, Reach, is_private, offset_of, byte_place, on, seat_pages, table_of, byte_of, IsReachSound, Lies, AreThere, bytes_shown, nat_tests}
 use Rattle.storage_unit.proofs.SizeLemmas.{same-page-on, rest-on, seat-bytes}
 use Rattle.storage_unit.proofs.ByteLemmas.{in-range}
 use Rattle.storage_unit.proofs.HeldLemmas.{keys-long}
@@ -38,13 +38,13 @@ shown-split state place m n =
     ]
 
 -- the frame that the table found is one of the pool's
-pub found-below : (state : Reach) (at : Virtual) (frame : ℕ) → IsSound state → look_up (table_of state).keys (key_of at) ≡ Some frame → frame < frame_count state.pool.page state.pool.frames
+pub found-below : (state : Reach) (at : Virtual) (frame : ℕ) → IsReachSound state → look_up (table_of state).keys (key_of at) ≡ Some frame → frame < frame_count state.pool.page state.pool.frames
 found-below state at frame sound is = grind (arith, nat_tests, look_up-held, keys-long)
 
-module _ (state : Reach) (sound : IsSound state) (at : Virtual) (n : ℕ) (some : 0 < n) (lies : Lies state at n) where
+module _ (state : Reach) (sound : IsReachSound state) (at : Virtual) (n : ℕ) (some : 0 < n) (lies : Lies state at n) where
   -- the byte that is shown of a byte of the same page, in the frame that the table found
   pub shown-found : (frame k : ℕ) → look_up (table_of state).keys (key_of at) ≡ Some frame → at.byte + k < page_bytes state.directory.page
-      → byte_of state (on (place_of state.directory at) k) ≡ slice_index state.pool.bytes (frame * page_bytes state.directory.page + at.byte + k)
+      → byte_of state (on (byte_place state.directory at) k) ≡ slice_index state.pool.bytes (frame * page_bytes state.directory.page + at.byte + k)
   shown-found frame k is within = elim (cases_Bool (is_private at.segment)) [
     | inl own ↦
         let (seat, runner, few, segment, begun, fits) = lies.private own in
@@ -69,7 +69,7 @@ module _ (state : Reach) (sound : IsSound state) (at : Virtual) (n : ℕ) (some 
 
   -- a part of that frame has the bytes that are shown
   pub part-shown : (frame : ℕ) → look_up (table_of state).keys (key_of at) ≡ Some frame → at.byte + n ≤ page_bytes state.directory.page
-      → part_of state.pool frame at.byte n ≡ bytes_shown state (place_of state.directory at) n
+      → frame_part state.pool frame at.byte n ≡ bytes_shown state (byte_place state.directory at) n
   part-shown frame is within =
       let fits : frame * page_bytes state.directory.page + page_bytes state.directory.page ≤ length state.pool.bytes =
       omega (
@@ -81,11 +81,11 @@ module _ (state : Reach) (sound : IsSound state) (at : Virtual) (n : ℕ) (some 
       let long : length (slice_range state.pool.bytes (frame * page_bytes state.directory.page + at.byte) (frame * page_bytes state.directory.page + at.byte + n)) ≡ n =
       simp (length-take, length-drop) (omega (arith, fits, within)) in
       ap (λ s. slice_range state.pool.bytes (frame * page_bytes s + at.byte) (frame * page_bytes s + at.byte + n)) sound.fits.size
-      ∙ same_number_lists (slice_range state.pool.bytes (frame * page_bytes state.directory.page + at.byte) (frame * page_bytes state.directory.page + at.byte + n)) (bytes_shown state (place_of state.directory at) n)
-      (long ∙ sym (shown-long state (place_of state.directory at) n))
+      ∙ same_number_lists (slice_range state.pool.bytes (frame * page_bytes state.directory.page + at.byte) (frame * page_bytes state.directory.page + at.byte + n)) (bytes_shown state (byte_place state.directory at) n)
+      (long ∙ sym (shown-long state (byte_place state.directory at) n))
       (λ k below.
       let small : k < n = omega (arith, below, long) in
-      cc (in-range state.pool.bytes (frame * page_bytes state.directory.page + at.byte) n k small, shown-found frame k is (omega (arith, small, within)), shown-at state (place_of state.directory at) n k small))
+      cc (in-range state.pool.bytes (frame * page_bytes state.directory.page + at.byte) n k small, shown-found frame k is (omega (arith, small, within)), shown-at state (byte_place state.directory at) n k small))
 
   -- bytes that are in frames are found
   pub found-some : AreThere state at n → look_up (table_of state).keys (key_of at) ≡ None → ⊥

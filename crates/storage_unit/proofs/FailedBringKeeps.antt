@@ -1,11 +1,11 @@
 -- A page whose read failed leaves the bytes as they were.
-use Rattle.storage_unit.proofs.Common.{◌≡◌, ℕ, ◌<◌, true, false, List, length, sym, ◌∙◌, ap, subst, Option, inl, inr, cases_eq, page_bytes, Layout, byte_count, page_count, page_of, has, Pool, IsSeen, frame_at, Brought, with_room, emptied, is_marked, byte_over, IsClean, Fits, Keeps, filled, FailedBringKeeps, arith, nat_tests}
+use Rattle.storage_unit.proofs.Common.{◌≡◌, ℕ, ◌<◌, true, false, List, length, sym, ◌∙◌, ap, subst, Option, inl, inr, cases_eq, page_bytes, Layout, byte_count, page_count, page_of, has, Pool, IsSeen, frame_at, Brought, with_room, pool_emptied, is_marked, byte_over, IsClean, PoolFits, PoolKeeps, frame_filled, FailedBringKeeps, arith, nat_tests}
 use Rattle.storage_unit.proofs.ByteLemmas.{same-bytes, over-none}
 use Rattle.storage_unit.proofs.LeaveLemmas.{clean-shows, emptied-over, emptied-clean}
 use Rattle.storage_unit.proofs.BringLemmas.{full, fewer, size, not-there, bytes-long, filled-is, full-here, full-elsewhere, full-marked}
 
 module _ (d : Layout) (old new : Pool) (committed bytes : List ℕ) (page : ℕ) (keep : Option ℕ) (frame : ℕ)
-    (fits : Fits d old) (also : Fits d new) (clean : IsClean d old committed) (within : page < page_count d) (absent : has old.resident page ≡ false)
+    (fits : PoolFits d old) (also : PoolFits d new) (clean : IsClean d old committed) (within : page < page_count d) (absent : has old.resident page ≡ false)
     (came : Brought old new page keep frame) (long : length bytes ≡ page_bytes d.page) where
   abbrev brought_in : Pool
   brought_in = full d old new committed bytes page keep frame fits clean within absent came long
@@ -45,7 +45,7 @@ module _ (d : Layout) (old new : Pool) (committed bytes : List ℕ) (page : ℕ)
         | inr apart ↦ full-elsewhere d old new committed bytes page keep frame fits clean within absent came long place apart ∙ less.over place below
       ]
 
-  each : (place : ℕ) → place < byte_count d → byte_over d (emptied brought_in) committed place ≡ byte_over d old committed place
+  each : (place : ℕ) → place < byte_count d → byte_over d (pool_emptied brought_in) committed place ≡ byte_over d old committed place
   each place below =
       grind (
         arith,
@@ -56,11 +56,11 @@ module _ (d : Layout) (old new : Pool) (committed bytes : List ℕ) (page : ℕ)
         clean-shows d old committed place clean below,
       )
 
-  keeps : Keeps d old (emptied (filled new page frame bytes)) committed
+  keeps : PoolKeeps d old (pool_emptied (frame_filled new page frame bytes)) committed
   keeps =
-      subst (λ (pool : Pool). Keeps d old (emptied pool) committed)
+      subst (λ (pool : Pool). PoolKeeps d old (pool_emptied pool) committed)
       (sym (filled-is d old new committed bytes page keep frame fits clean within absent came long))
-      (record { same = same-bytes d (emptied brought_in) old committed committed each; clean = emptied-clean d brought_in committed seen })
+      (record { same = same-bytes d (pool_emptied brought_in) old committed committed each; clean = emptied-clean d brought_in committed seen })
 
 pub failed-bring-keeps : FailedBringKeeps
 failed-bring-keeps = λ d old new committed bytes page keep frame fits also clean within absent came long. keeps d old new committed bytes page keep frame fits also clean within absent came long

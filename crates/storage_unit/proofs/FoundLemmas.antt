@@ -1,5 +1,5 @@
 -- An access that was located: where it lies, what is answered to it, and its bytes.
-use Rattle.storage_unit.proofs.Common.{◌≡◌, ℕ, sym, ◌∙◌, ap, Result, Ok, Check, Virtual, located_by, Access, Probe, answer_in, answered_at, bytes_from, place_of, byte_at, is_in_frame, refuses, Lies, bytes_shown, Unit, reach_of}
+use Rattle.storage_unit.proofs.Common.{◌≡◌, ℕ, sym, ◌∙◌, ap, Result, Ok, Check, Virtual, located_by, Access, Probe, answer_in, answered_at, bytes_from, byte_place, byte_at, is_in_frame, refuses_byte, Lies, bytes_shown, Unit, reach_of}
 use Rattle.storage_unit.proofs.AfterLemmas.{range-shown}
 use Rattle.storage_unit.proofs.PlaceLemmas.{under, lies, registers-page}
 use Rattle.storage_unit.proofs.UnitLemmas.{unit-sound}
@@ -13,9 +13,9 @@ module _
   pub found-lies : Lies (reach_of unit) first wants.bytes
   found-lies = lies (reach_of unit) (unit-sound unit) wants.address wants.bytes first (under unit.registers wants.address wants.bytes wants.store first found)
 
-  pub found-answer : (answer : Probe) → answer ≡ answered_at unit.directory.page (is_in_frame (reach_of unit)) (refuses (reach_of unit)) wants (Ok first)
-      → answer ≡ answer_in (λ state. state.registers) is_in_frame refuses (reach_of unit) wants
+  pub found-answer : (answer : Probe) → answer ≡ answered_at unit.directory.page (is_in_frame (reach_of unit)) (refuses_byte (reach_of unit)) wants (Ok first)
+      → answer ≡ answer_in (λ state. state.registers) is_in_frame refuses_byte (reach_of unit) wants
   found-answer answer told = cc (registers-page (reach_of unit) (unit-sound unit))
 
-  pub found-bytes : bytes_shown (reach_of unit) (place_of unit.directory first) wants.bytes ≡ bytes_from (byte_at (reach_of unit)) wants.address wants.bytes
+  pub found-bytes : bytes_shown (reach_of unit) (byte_place unit.directory first) wants.bytes ≡ bytes_from (byte_at (reach_of unit)) wants.address wants.bytes
   found-bytes = range-shown (reach_of unit) (unit-sound unit) wants.address wants.bytes first (under unit.registers wants.address wants.bytes wants.store first found)

@@ -1,30 +1,30 @@
 -- What the table of a unit holds, and where it finds a page.
-use Rattle.storage_unit.proofs.Common.{append_assoc, ◌≡◌, ◌≢◌, ℕ, ◌+◌, ◌-◌, ◌*◌, ◌/◌, ◌%◌, ◌<◌, ◌≤◌, Bool, true, List, [], ◌∷◌, ◌++◌, length, sym, ◌∙◌, ap, subst, arith, get_or, Option, Some, None, inl, inr, nat_lt, if◌then◌else◌, slice_index_or, slice_set, option_map, cases_lt, nat_tests, same_lists, length-set, get_or-set_same, get_or-set_other, get_or_past, get_or-map-range_with_len, length-map-range_with_len, overlaid, overlaid_before, overlaid_within, overlaid_behind, length-overlaid, PageSize, Layout, page_count, IsLegal, Key, key_to, key_in, look_up, look_up-is, Pool, IsSeen, private_frames, frame_at, page_at, some-within, private_segment, key_of_page, seat_pages, held_private, held_in, keys_with, page_in, drop, drop-set, overlaid-joined, take, take-append-drop, take-set}
+use Rattle.storage_unit.proofs.Common.{append_assoc, ◌≡◌, ◌≢◌, ℕ, ◌+◌, ◌-◌, ◌*◌, ◌/◌, ◌%◌, ◌<◌, ◌≤◌, Bool, true, List, [], ◌∷◌, ◌++◌, length, sym, ◌∙◌, ap, subst, arith, get_or, Option, Some, None, inl, inr, nat_lt, if◌then◌else◌, slice_index_or, slice_set, option_map, cases_lt, nat_tests, same_lists, length-set, get_or-set_same, get_or-set_other, get_or_past, get_or-map-range_with_len, length-map-range_with_len, overlaid, overlaid_before, overlaid_within, overlaid_behind, length-overlaid, PageSize, Layout, page_count, AreSegmentsLegal, Key, key_to, key_in, look_up, look_up-is, Pool, IsSeen, private_frames, frame_at, page_at, some-within, private_segment, key_of_page, seat_pages, held_private, held_in, keys_with, page_bytes_in, drop, drop-set, overlaid-joined, take, take-append-drop, take-set}
 use Rattle.storage_unit.proofs.SizeLemmas.{seat-frame, seat-first, seat-rest, seat-room, seat-before, seat-behind}
 use Rattle.storage_unit.proofs.KeyLemmas.{same-page, key-low}
 
 -- what a frame holds
-pub key-at : (d : Layout) (t : ℕ → ℕ) (frames : ℕ) (page_in : List (Option ℕ)) (frame : ℕ) → frame < private_frames d.page + frames → key_in (keys_with d t frames page_in) frame ≡ held_in d t page_in frame
-key-at d t frames page_in frame below = get_or-map-range_with_len (held_in d t page_in) 0 (private_frames d.page + frames) frame frame None below (omega arith)
+pub key-at : (d : Layout) (t : ℕ → ℕ) (frames : ℕ) (page_bytes_in : List (Option ℕ)) (frame : ℕ) → frame < private_frames d.page + frames → key_in (keys_with d t frames page_bytes_in) frame ≡ held_in d t page_bytes_in frame
+key-at d t frames page_bytes_in frame below = get_or-map-range_with_len (held_in d t page_bytes_in) 0 (private_frames d.page + frames) frame frame None below (omega arith)
 
-pub keys-long : (d : Layout) (t : ℕ → ℕ) (frames : ℕ) (page_in : List (Option ℕ)) → length (keys_with d t frames page_in) ≡ private_frames d.page + frames
-keys-long d t frames page_in = length-map-range_with_len (held_in d t page_in) 0 (private_frames d.page + frames)
+pub keys-long : (d : Layout) (t : ℕ → ℕ) (frames : ℕ) (page_bytes_in : List (Option ℕ)) → length (keys_with d t frames page_bytes_in) ≡ private_frames d.page + frames
+keys-long d t frames page_bytes_in = length-map-range_with_len (held_in d t page_bytes_in) 0 (private_frames d.page + frames)
 
 -- what is held is held in a frame that there is
-pub key-within : (d : Layout) (t : ℕ → ℕ) (frames : ℕ) (page_in : List (Option ℕ)) (frame : ℕ) (key : Key) → key_in (keys_with d t frames page_in) frame ≡ Some key → frame < private_frames d.page + frames
-key-within d t frames page_in frame key is = elim (cases_lt frame (private_frames d.page + frames)) [
+pub key-within : (d : Layout) (t : ℕ → ℕ) (frames : ℕ) (page_bytes_in : List (Option ℕ)) (frame : ℕ) (key : Key) → key_in (keys_with d t frames page_bytes_in) frame ≡ Some key → frame < private_frames d.page + frames
+key-within d t frames page_bytes_in frame key is = elim (cases_lt frame (private_frames d.page + frames)) [
   | inl below ↦ below
   | inr past ↦
       absurd
-      (let clash : None ≡ Some key = sym (get_or_past (keys_with d t frames page_in) frame None (omega (arith, past, keys-long d t frames page_in))) ∙ is in cc)
+      (let clash : None ≡ Some key = sym (get_or_past (keys_with d t frames page_bytes_in) frame None (omega (arith, past, keys-long d t frames page_bytes_in))) ∙ is in cc)
 ]
 
 -- what private frames and others hold
-pub held-private : (d : Layout) (t : ℕ → ℕ) (page_in : List (Option ℕ)) (frame : ℕ) → frame < private_frames d.page → held_in d t page_in frame ≡ held_private d.page t frame
-held-private d t page_in frame below = grind (arith, nat_tests)
+pub held-private : (d : Layout) (t : ℕ → ℕ) (page_bytes_in : List (Option ℕ)) (frame : ℕ) → frame < private_frames d.page → held_in d t page_bytes_in frame ≡ held_private d.page t frame
+held-private d t page_bytes_in frame below = grind (arith, nat_tests)
 
-pub held-store : (d : Layout) (t : ℕ → ℕ) (page_in : List (Option ℕ)) (frame : ℕ) → private_frames d.page ≤ frame → held_in d t page_in frame ≡ option_map (key_of_page d) (slice_index_or page_in frame None)
-held-store d t page_in frame above = grind (arith, nat_tests)
+pub held-store : (d : Layout) (t : ℕ → ℕ) (page_bytes_in : List (Option ℕ)) (frame : ℕ) → private_frames d.page ≤ frame → held_in d t page_bytes_in frame ≡ option_map (key_of_page d) (slice_index_or page_bytes_in frame None)
+held-store d t page_bytes_in frame above = grind (arith, nat_tests)
 
 -- a private frame that holds something holds a page of its seat
 record IsPrivate (size : PageSize) (t : ℕ → ℕ) (frame : ℕ) (key : Key) : Type 0 where
@@ -39,7 +39,7 @@ is-private size t frame key is = grind (arith, nat_tests)
 has-page : (d : Layout) (o : Option ℕ) (key : Key) → option_map (key_of_page d) o ≡ Some key → (page : ℕ) × (o ≡ Some page) × (key_of_page d page ≡ key)
 has-page d o key is = grind (arith, nat_tests)
 
-module _ (d : Layout) (legal : IsLegal d.segments) (pool : Pool) (seen : IsSeen pool) (size : pool.page ≡ d.page) (pages : length pool.frame_of ≡ page_count d) (t : ℕ → ℕ) where
+module _ (d : Layout) (legal : AreSegmentsLegal d.segments) (pool : Pool) (seen : IsSeen pool) (size : pool.page ≡ d.page) (pages : length pool.frame_of ≡ page_count d) (t : ℕ → ℕ) where
   -- a frame that the pool has a page in is one of the store, and so is the page
   pub above : (page frame : ℕ) → page_at pool frame ≡ Some page → private_frames d.page ≤ frame
   above page frame is = subst (λ s. private_frames s ≤ frame) size (seen.above page frame is)
@@ -114,69 +114,69 @@ overlaid-more {X = X} xs at part x room =
 
 -- where a frame of the store holds something else
 pub keys-store :
-    (d : Layout) (t : ℕ → ℕ) (frames : ℕ) (page_in : List (Option ℕ)) (frame : ℕ) (o : Option ℕ) → private_frames d.page ≤ frame → frame < private_frames d.page + frames → frame < length page_in
-    → slice_set (keys_with d t frames page_in) frame (option_map (key_of_page d) o) ≡ keys_with d t frames (slice_set page_in frame o)
-keys-store d t frames page_in frame o above below inside =
+    (d : Layout) (t : ℕ → ℕ) (frames : ℕ) (page_bytes_in : List (Option ℕ)) (frame : ℕ) (o : Option ℕ) → private_frames d.page ≤ frame → frame < private_frames d.page + frames → frame < length page_bytes_in
+    → slice_set (keys_with d t frames page_bytes_in) frame (option_map (key_of_page d) o) ≡ keys_with d t frames (slice_set page_bytes_in frame o)
+keys-store d t frames page_bytes_in frame o above below inside =
     let there : (k : ℕ) (e : Option Key) → k < private_frames d.page + frames → (in_page : List (Option ℕ)) → get_or (keys_with d t frames in_page) k e ≡ held_in d t in_page k =
     λ k e less in_page. get_or-map-range_with_len (held_in d t in_page) 0 (private_frames d.page + frames) k k e less (omega arith) in
     let element : (k : ℕ) (e : Option Key) → k < private_frames d.page + frames
-    → get_or (slice_set (keys_with d t frames page_in) frame (option_map (key_of_page d) o)) k e ≡ get_or (keys_with d t frames (slice_set page_in frame o)) k e =
+    → get_or (slice_set (keys_with d t frames page_bytes_in) frame (option_map (key_of_page d) o)) k e ≡ get_or (keys_with d t frames (slice_set page_bytes_in frame o)) k e =
     λ k e less. grind (
       arith,
       nat_tests,
-      get_or-set_same (keys_with d t frames page_in) frame (option_map (key_of_page d) o) e,
-      get_or-set_other (keys_with d t frames page_in) frame k (option_map (key_of_page d) o) e,
-      get_or-set_same page_in frame o None,
-      get_or-set_other page_in frame k o None,
-      there k e less page_in,
-      there k e less (slice_set page_in frame o),
-      keys-long d t frames page_in,
+      get_or-set_same (keys_with d t frames page_bytes_in) frame (option_map (key_of_page d) o) e,
+      get_or-set_other (keys_with d t frames page_bytes_in) frame k (option_map (key_of_page d) o) e,
+      get_or-set_same page_bytes_in frame o None,
+      get_or-set_other page_bytes_in frame k o None,
+      there k e less page_bytes_in,
+      there k e less (slice_set page_bytes_in frame o),
+      keys-long d t frames page_bytes_in,
     ) in
-    let set = slice_set (keys_with d t frames page_in) frame (option_map (key_of_page d) o) in
-    let later = keys_with d t frames (slice_set page_in frame o) in
-    let long : length set ≡ private_frames d.page + frames = length-set (keys_with d t frames page_in) frame (option_map (key_of_page d) o) ∙ keys-long d t frames page_in in
-    same_lists set later (long ∙ sym (keys-long d t frames (slice_set page_in frame o))) (λ k e less. element k e (omega (arith, less, long)))
+    let set = slice_set (keys_with d t frames page_bytes_in) frame (option_map (key_of_page d) o) in
+    let later = keys_with d t frames (slice_set page_bytes_in frame o) in
+    let long : length set ≡ private_frames d.page + frames = length-set (keys_with d t frames page_bytes_in) frame (option_map (key_of_page d) o) ∙ keys-long d t frames page_bytes_in in
+    same_lists set later (long ∙ sym (keys-long d t frames (slice_set page_bytes_in frame o))) (λ k e less. element k e (omega (arith, less, long)))
 
 -- where the private pages of a seat come into the table or leave it
 pub keys-seat :
-    (d : Layout) (t u : ℕ → ℕ) (frames : ℕ) (page_in : List (Option ℕ)) (seat : ℕ) (part : List (Option Key)) → seat < 16 → length part ≡ seat_pages d.page
+    (d : Layout) (t u : ℕ → ℕ) (frames : ℕ) (page_bytes_in : List (Option ℕ)) (seat : ℕ) (part : List (Option Key)) → seat < 16 → length part ≡ seat_pages d.page
     → ((index : ℕ) → index < seat_pages d.page → (e : Option Key) → get_or part index e ≡ held_private d.page u (seat * seat_pages d.page + index))
     → ((other : ℕ) → other ≢ seat → u other ≡ t other)
-    → overlaid (keys_with d t frames page_in) (seat * seat_pages d.page) part ≡ keys_with d u frames page_in
-keys-seat d t u frames page_in seat part few eight holds others =
-    same_lists (overlaid (keys_with d t frames page_in) (seat * seat_pages d.page) part) (keys_with d u frames page_in)
-    (long ∙ keys-long d t frames page_in ∙ sym (keys-long d u frames page_in)) (λ k e less. element k e (omega (arith, less, long, keys-long d t frames page_in)))
+    → overlaid (keys_with d t frames page_bytes_in) (seat * seat_pages d.page) part ≡ keys_with d u frames page_bytes_in
+keys-seat d t u frames page_bytes_in seat part few eight holds others =
+    same_lists (overlaid (keys_with d t frames page_bytes_in) (seat * seat_pages d.page) part) (keys_with d u frames page_bytes_in)
+    (long ∙ keys-long d t frames page_bytes_in ∙ sym (keys-long d u frames page_bytes_in)) (λ k e less. element k e (omega (arith, less, long, keys-long d t frames page_bytes_in)))
   where
-    room : seat * seat_pages d.page + length part ≤ length (keys_with d t frames page_in)
-    room = omega (arith, seat-room d.page seat few, eight, keys-long d t frames page_in)
+    room : seat * seat_pages d.page + length part ≤ length (keys_with d t frames page_bytes_in)
+    room = omega (arith, seat-room d.page seat few, eight, keys-long d t frames page_bytes_in)
 
-    long : length (overlaid (keys_with d t frames page_in) (seat * seat_pages d.page) part) ≡ length (keys_with d t frames page_in)
-    long = length-overlaid (keys_with d t frames page_in) (seat * seat_pages d.page) part room
+    long : length (overlaid (keys_with d t frames page_bytes_in) (seat * seat_pages d.page) part) ≡ length (keys_with d t frames page_bytes_in)
+    long = length-overlaid (keys_with d t frames page_bytes_in) (seat * seat_pages d.page) part room
 
-    there : (k : ℕ) (e : Option Key) → k < private_frames d.page + frames → (v : ℕ → ℕ) → get_or (keys_with d v frames page_in) k e ≡ held_in d v page_in k
-    there k e less v = get_or-map-range_with_len (held_in d v page_in) 0 (private_frames d.page + frames) k k e less (omega arith)
+    there : (k : ℕ) (e : Option Key) → k < private_frames d.page + frames → (v : ℕ → ℕ) → get_or (keys_with d v frames page_bytes_in) k e ≡ held_in d v page_bytes_in k
+    there k e less v = get_or-map-range_with_len (held_in d v page_bytes_in) 0 (private_frames d.page + frames) k k e less (omega arith)
 
-    stays : (k : ℕ) → k / seat_pages d.page ≢ seat → held_in d t page_in k ≡ held_in d u page_in k
+    stays : (k : ℕ) → k / seat_pages d.page ≢ seat → held_in d t page_bytes_in k ≡ held_in d u page_bytes_in k
     stays k apart =
-        ap (λ n. if nat_lt k (private_frames d.page) then (if nat_lt (k % seat_pages d.page) n then Some (key_to (private_segment (k / seat_pages d.page)) (k % seat_pages d.page)) else None) else option_map (key_of_page d) (slice_index_or page_in k None))
+        ap (λ n. if nat_lt k (private_frames d.page) then (if nat_lt (k % seat_pages d.page) n then Some (key_to (private_segment (k / seat_pages d.page)) (k % seat_pages d.page)) else None) else option_map (key_of_page d) (slice_index_or page_bytes_in k None))
         (sym (others (k / seat_pages d.page) apart))
 
-    element : (k : ℕ) (e : Option Key) → k < private_frames d.page + frames → get_or (overlaid (keys_with d t frames page_in) (seat * seat_pages d.page) part) k e ≡ get_or (keys_with d u frames page_in) k e
+    element : (k : ℕ) (e : Option Key) → k < private_frames d.page + frames → get_or (overlaid (keys_with d t frames page_bytes_in) (seat * seat_pages d.page) part) k e ≡ get_or (keys_with d u frames page_bytes_in) k e
     element k e less = elim (cases_lt k (seat * seat_pages d.page)) [
       | inl low ↦
-          overlaid_before (keys_with d t frames page_in) (seat * seat_pages d.page) part k e (omega (arith, room)) low
+          overlaid_before (keys_with d t frames page_bytes_in) (seat * seat_pages d.page) part k e (omega (arith, room)) low
           ∙ there k e less t ∙ stays k (λ same. absurd (omega (arith, seat-before d.page seat k low, same))) ∙ sym (there k e less u)
       | inr high ↦
           elim (cases_lt k (seat * seat_pages d.page + length part)) [
             | inl within ↦
                 let back : seat * seat_pages d.page + (k - seat * seat_pages d.page) ≡ k = omega (arith, high) in
-                overlaid_within (keys_with d t frames page_in) (seat * seat_pages d.page) part k e (omega (arith, room)) high within
+                overlaid_within (keys_with d t frames page_bytes_in) (seat * seat_pages d.page) part k e (omega (arith, room)) high within
                 ∙ holds (k - seat * seat_pages d.page) (omega (arith, within, high, eight)) e
                 ∙ ap (held_private d.page u) back
-                ∙ sym (held-private d u page_in k (omega (arith, within, seat-room d.page seat few, eight)))
+                ∙ sym (held-private d u page_bytes_in k (omega (arith, within, seat-room d.page seat few, eight)))
                 ∙ sym (there k e less u)
             | inr past ↦
-                overlaid_behind (keys_with d t frames page_in) (seat * seat_pages d.page) part k e (omega (arith, room)) past
+                overlaid_behind (keys_with d t frames page_bytes_in) (seat * seat_pages d.page) part k e (omega (arith, room)) past
                 ∙ there k e less t ∙ stays k (λ same. absurd (omega (arith, seat-behind d.page seat k (omega (arith, past, eight)), same))) ∙ sym (there k e less u)
           ]
     ]

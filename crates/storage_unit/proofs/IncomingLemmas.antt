@@ -1,6 +1,6 @@
 -- A page that comes in: the frame that is lent is filled, and its kept lines are laid over it.
-use Rattle.storage_unit.proofs.Common.{◌≡◌, refl, ℕ, ◌+◌, ◌*◌, ◌<◌, ◌≤◌, ◌==◌, true, List, [], ◌∷◌, length, Option, Some, None, is_some, range_with_len, slice_index, get_or-set_same, page_count, frame_at, marks_at, with_room, ap, arith, sym, subst, ◌∙◌, eq-eqb, length-take, length-drop, page_bytes, Layout, has, Pool, IsSeen, frame_bytes, Brought, emptied, laid, with_bytes, with_frame_part, lent-part, page_part, Fits, filled, private_frames, Reach, reach_of, Unit, nat_tests, both_ways, or_left, bits_of, lines_of_bits, bits_of-lines, laid-anyway, AreReady, AreClear}
-use Rattle.storage_unit.specs.Incoming.{IsFilled, IsKept, HasGoneOut}
+use Rattle.storage_unit.proofs.Common.{◌≡◌, refl, ℕ, ◌+◌, ◌*◌, ◌<◌, ◌≤◌, ◌==◌, true, List, [], ◌∷◌, length, Option, Some, None, is_some, range_with_len, slice_index, get_or-set_same, page_count, frame_at, marks_at, with_room, ap, arith, sym, subst, ◌∙◌, eq-eqb, length-take, length-drop, page_bytes, Layout, has, Pool, IsSeen, frame_bytes, Brought, pool_emptied, kept_laid, with_bytes, with_frame_part, lent-part, page_part, PoolFits, frame_filled, private_frames, Reach, reach_of, Unit, nat_tests, both_ways, or_left, bits_of, lines_of_bits, bits_of-lines, laid-anyway, AreReady, AreClear}
+use Rattle.storage_unit.specs.Incoming.{IsFilled, IsAllKept, HasGoneOut}
 use Rattle.storage_unit.proofs.SizeLemmas.{frame-high}
 use Rattle.storage_unit.proofs.StoreLemmas.{all-private}
 use Rattle.storage_unit.proofs.LaidLemmas.{over-low}
@@ -15,8 +15,8 @@ none-has [] none = refl
 none-has (x ∷ xs) none = absurd (none x (or_left (x == x) (has xs x) (eq-eqb x x refl)))
 
 -- once all pages went out, none is resident
-pub emptied-resident : (pool : Pool) → IsSeen pool → IsSeen (emptied pool) → (emptied pool).resident ≡ []
-emptied-resident pool seen after = none-has (emptied pool).resident (λ page inside. both_ways (has (emptied pool).resident page) (after.resident page ∙ ap is_some (emptied-frame pool page seen)) inside)
+pub emptied-resident : (pool : Pool) → IsSeen pool → IsSeen (pool_emptied pool) → (pool_emptied pool).resident ≡ []
+emptied-resident pool seen after = none-has (pool_emptied pool).resident (λ page inside. both_ways (has (pool_emptied pool).resident page) (after.resident page ∙ ap is_some (emptied-frame pool page seen)) inside)
 
 module _ (unit brought_in : Unit) (page : ℕ) (keep : Option ℕ) (frame : ℕ) (came : Brought (reach_of unit).pool (reach_of brought_in).pool page keep frame) where
   -- what is marked of it stays as it comes
@@ -30,8 +30,8 @@ module _ (unit brought_in : Unit) (page : ℕ) (keep : Option ℕ) (frame : ℕ)
 module _ (unit brought_in : Unit) (page : ℕ) (keep : Option ℕ) (frame : ℕ) (lent : List ℕ)
     (came : Brought (reach_of unit).pool (reach_of brought_in).pool page keep frame) (rest : reach_of brought_in ≡ record (reach_of unit) { pool = (reach_of brought_in).pool })
     (lends : lent ≡ frame_bytes (reach_of brought_in).pool frame) where
-  there : Fits unit.directory (reach_of brought_in).pool
-  there = subst (λ (directory : Layout). Fits directory (reach_of brought_in).pool) (ap (λ (r : Reach). r.directory) rest) (brought_in.fits)
+  there : PoolFits unit.directory (reach_of brought_in).pool
+  there = subst (λ (directory : Layout). PoolFits directory (reach_of brought_in).pool) (ap (λ (r : Reach). r.directory) rest) (brought_in.fits)
 
   inside : frame * page_bytes brought_in.pool.page + page_bytes brought_in.pool.page ≤ length brought_in.pool.bytes
   inside = grind (arith, nat_tests)
@@ -60,8 +60,8 @@ module _ (unit brought_in : Unit) (page : ℕ) (keep : Option ℕ) (frame : ℕ)
   still-clear part keeps_length = clear-kept brought_in.used brought_in.pool.bytes _ (filled-low part keeps_length) brought_in.clear
 
   -- each of its lines is kept
-  pub is-kept : (now : Unit) → reach_of now ≡ record (reach_of brought_in) { pool = laid (reach_of brought_in).pool page } → range_with_len 0 16 ≡ marks_at (reach_of brought_in).pool page
-      → page < page_count unit.directory → IsKept (reach_of unit) page keep (reach_of now).pool
+  pub is-kept : (now : Unit) → reach_of now ≡ record (reach_of brought_in) { pool = kept_laid (reach_of brought_in).pool page } → range_with_len 0 16 ≡ marks_at (reach_of brought_in).pool page
+      → page < page_count unit.directory → IsAllKept (reach_of unit) page keep (reach_of now).pool
   is-kept now lays all below =
       let pool : Pool = (reach_of brought_in).pool in
       let stays = (room-stays (reach_of unit).pool keep unit.fits.seen).1 in
@@ -84,8 +84,8 @@ module _ (unit brought_in : Unit) (page : ℕ) (keep : Option ℕ) (frame : ℕ)
       }
 
   module _ (part : List ℕ) (now : Unit) (keeps_length : length part ≡ length lent)
-      (lays : reach_of now ≡ record (reach_of brought_in) { pool = laid (with_frame_part brought_in.pool (frame * page_bytes brought_in.pool.page) part) page }) where
-    pool-filled : (reach_of now).pool ≡ filled (reach_of brought_in).pool page frame part
+      (lays : reach_of now ≡ record (reach_of brought_in) { pool = kept_laid (with_frame_part brought_in.pool (frame * page_bytes brought_in.pool.page) part) page }) where
+    pool-filled : (reach_of now).pool ≡ frame_filled (reach_of brought_in).pool page frame part
     pool-filled = grind (arith, nat_tests, lent-part, inside, whole)
 
     pub is-filled : IsFilled (reach_of unit) page keep part (reach_of now).pool
@@ -102,7 +102,7 @@ module _ (unit brought_in : Unit) (page : ℕ) (keep : Option ℕ) (frame : ℕ)
           ∙ ap (λ (pool : Pool). pool.resident) came.rest;
     }
 
-    pub has-gone-out : (after : Unit) → reach_of after ≡ record (reach_of now) { pool = emptied (reach_of now).pool } → HasGoneOut (reach_of unit) page keep (reach_of after).pool
+    pub has-gone-out : (after : Unit) → reach_of after ≡ record (reach_of now) { pool = pool_emptied (reach_of now).pool } → HasGoneOut (reach_of unit) page keep (reach_of after).pool
     has-gone-out after empties =
         let out = ap (λ (r : Reach). r.pool) empties in
         record {

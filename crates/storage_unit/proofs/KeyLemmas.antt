@@ -1,5 +1,5 @@
 -- The pages of segments and the flat pages of a store, by each other.
-use Rattle.storage_unit.proofs.Common.{not, cond, nat_lt, if◌then◌else◌, find, take_while, sum_by, option_map, slice_index, nat_tests, PageSize, page_bytes, bytes_of, is_named, Layout, length_of, start_of, page_count, IsLegal, Key, key_to, named-low, key_among, key_of_page, ◌≡◌, ℕ, ◌+◌, ◌-◌, ◌*◌, ◌/◌, ◌%◌, ◌<◌, ◌≤◌, Bool, true, false, List, [], ◌∷◌, map, refl, ◌∙◌, ap, arith, add-one, Option, Some}
+use Rattle.storage_unit.proofs.Common.{not, cond, nat_lt, if◌then◌else◌, find, take_while, sum_by, option_map, slice_index, nat_tests, PageSize, page_bytes, bytes_of, is_named, Layout, length_of, start_of, page_count, AreSegmentsLegal, Key, key_to, named-low, key_among, key_of_page, ◌≡◌, ℕ, ◌+◌, ◌-◌, ◌*◌, ◌/◌, ◌%◌, ◌<◌, ◌≤◌, Bool, true, false, List, [], ◌∷◌, map, refl, ◌∙◌, ap, arith, add-one, Option, Some}
 use Rattle.std.specs.List.Sorted.{IsStrictlyIncreasing}
 use Rattle.std.proofs.lemmas.List.Sums.{sum_by-cons}
 use Rattle.storage_unit.proofs.SizeLemmas.{pages-past, pages-left}
@@ -99,7 +99,7 @@ module _ (size : PageSize) where
             start = omega (arith, begin-cons key.segment x xs ∙ ap (λ (b : Bool). if b then 0 else bytes_of (page_bytes size) x + begin_of size xs key.segment) other, later.start, pages-left size x.1 page more);
           }
 
-module _ (d : Layout) (legal : IsLegal d.segments) where
+module _ (d : Layout) (legal : AreSegmentsLegal d.segments) where
   -- the page of a place of the store
   pub key-of-place :
       (segment bytes offset : ℕ) → length_of d segment ≡ Some bytes → offset < bytes → key_of_page d ((start_of d segment + offset) / page_bytes d.page) ≡ key_to segment (offset / page_bytes d.page)

@@ -1,5 +1,5 @@
 -- Private bytes stay where those of a frame of the store are written.
-use Rattle.storage_unit.proofs.Common.{◌≡◌, ℕ, ◌+◌, ◌*◌, ◌<◌, ◌≤◌, List, [], ◌∷◌, ◌++◌, length, take, drop, refl, sym, ◌∙◌, subst, arith, Option, Some, None, fold, slice_index, slice_index_or, option_map_or, length-append, length-take, get_or_append_left, get_or-take, overlaid, line_place, line_kept, line_laid, laid, page_bytes, frame_at, Pool, Reach, IsSound}
+use Rattle.storage_unit.proofs.Common.{◌≡◌, ℕ, ◌+◌, ◌*◌, ◌<◌, ◌≤◌, List, [], ◌∷◌, ◌++◌, length, take, drop, refl, sym, ◌∙◌, subst, arith, Option, Some, None, fold, slice_index, slice_index_or, option_map_or, length-append, length-take, get_or_append_left, get_or-take, overlaid, line_place, line_kept, line_laid, kept_laid, page_bytes, frame_at, Pool, Reach, IsReachSound}
 use Rattle.storage_unit.proofs.SizeLemmas.{frame-high}
 use Rattle.storage_unit.proofs.StoreLemmas.{all-private, frame-below}
 
@@ -23,7 +23,7 @@ fold-low page frame k (line ∷ lines) pool high long low =
     fold-low page frame k lines (line_laid page frame pool line) high (long-low pool.bytes (line_place pool.page frame line) (line_kept pool page line) 262144 (omega (arith, high)) long) low
     ∙ over-low pool.bytes (line_place pool.page frame line) (line_kept pool page line) k (omega (arith, high, low)) (omega (arith, long, low))
 
-pub laid-low : (state : Reach) → IsSound state → (page k : ℕ) → k < 262144 → slice_index (laid state.pool page).bytes k ≡ slice_index state.pool.bytes k
+pub laid-low : (state : Reach) → IsReachSound state → (page k : ℕ) → k < 262144 → slice_index (kept_laid state.pool page).bytes k ≡ slice_index state.pool.bytes k
 laid-low state sound page k low = by_frame (frame_at state.pool page) refl
   where
     by_frame : (o : Option ℕ) → frame_at state.pool page ≡ o

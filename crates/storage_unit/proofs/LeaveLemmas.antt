@@ -1,5 +1,5 @@
 -- What pages that leave, lines that are settled and pages that come in do to the bytes that a pool shows.
-use Rattle.storage_unit.proofs.Common.{◌≡◌, ℕ, ◌%◌, ◌<◌, true, false, List, [], ◌∷◌, length, refl, sym, ◌∙◌, ap, arith, Option, Some, None, ◌&&◌, not, if◌then◌else◌, slice_index, slice_index_or, fold, option_map_or, cases_eq, length-set, get_or-set_same, get_or-set_other, Layout, byte_count, line_of, page_of, is_in_where-below, has, page_of_line, Pool, IsSeen, frame_at, marks_at, gone, page_out, with_room, emptied, settled, gone-frame, gone-stays, seen-gone, Stays, is_marked, byte_over, IsClean, is_among, nat_tests}
+use Rattle.storage_unit.proofs.Common.{◌≡◌, ℕ, ◌%◌, ◌<◌, true, false, List, [], ◌∷◌, length, refl, sym, ◌∙◌, ap, arith, Option, Some, None, ◌&&◌, not, if◌then◌else◌, slice_index, slice_index_or, fold, option_map_or, cases_eq, length-set, get_or-set_same, get_or-set_other, Layout, byte_count, line_of, page_of, is_in_where-below, has, page_of_line, Pool, IsSeen, frame_at, marks_at, gone, page_out, with_room, pool_emptied, settled, gone-frame, gone-stays, seen-gone, Stays, is_marked, byte_over, IsClean, is_among, nat_tests}
 use Rattle.storage_unit.proofs.ByteLemmas.{over-none, over-some, gone-over}
 
 -- a pool is clean where it shows the committed byte of each place that isn't marked
@@ -37,22 +37,22 @@ fold-over d committed place (page ∷ pages) pool seen size =
     let here = gone-over d pool committed page place seen size in
     grind (arith, rest, marks, here)
 
-pub emptied-frame : (pool : Pool) (p : ℕ) → IsSeen pool → frame_at (emptied pool) p ≡ None
+pub emptied-frame : (pool : Pool) (p : ℕ) → IsSeen pool → frame_at (pool_emptied pool) p ≡ None
 emptied-frame pool p seen = grind (arith, nat_tests, fold-frame pool.resident pool p)
 
-pub emptied-marked : (d : Layout) (pool : Pool) (place : ℕ) → is_marked d (emptied pool) place ≡ is_marked d pool place
+pub emptied-marked : (d : Layout) (pool : Pool) (place : ℕ) → is_marked d (pool_emptied pool) place ≡ is_marked d pool place
 emptied-marked d pool place = fold-marked d pool.resident pool place
 
 pub emptied-over :
     (d : Layout) (pool : Pool) (committed : List ℕ) (place : ℕ) → IsSeen pool → pool.page ≡ d.page
-    → byte_over d (emptied pool) committed place ≡ (if is_marked d pool place then byte_over d pool committed place else slice_index committed place)
+    → byte_over d (pool_emptied pool) committed place ≡ (if is_marked d pool place then byte_over d pool committed place else slice_index committed place)
 emptied-over d pool committed place seen size =
     let over = fold-over d committed place pool.resident pool seen size in
-    let none = over-none d (emptied pool) committed place (emptied-frame pool (page_of d place) seen) in
+    let none = over-none d (pool_emptied pool) committed place (emptied-frame pool (page_of d place) seen) in
     let marks = emptied-marked d pool place in
     grind (arith, over, none, marks)
 
-pub emptied-clean : (d : Layout) (pool : Pool) (committed : List ℕ) → IsSeen pool → IsClean d (emptied pool) committed
+pub emptied-clean : (d : Layout) (pool : Pool) (committed : List ℕ) → IsSeen pool → IsClean d (pool_emptied pool) committed
 emptied-clean d pool committed seen = λ place frame below there unmarked. absurd (let clash : None ≡ Some frame = sym (emptied-frame pool (page_of d place) seen) ∙ there in cc)
 
 -- where the page that goes out for another has left

@@ -1,5 +1,5 @@
 -- What a permitted store leaves of the two lists of plain bytes, and of the marks.
-use Rattle.storage_unit.proofs.Common.{◌≡◌, ◌≢◌, ℕ, ◌+◌, ◌-◌, ◌*◌, ◌/◌, ◌%◌, ◌<◌, ◌≤◌, Bool, true, false, List, [], length, drop, refl, sym, ◌∙◌, ap, arith, Option, Some, None, inl, inr, ◌||◌, slice_index, slice_range, is_some, cases_lt, get_or_past, length-take, length-drop, same_number_lists, overlaid, length-overlaid, page_bytes, byte_count, line_of, page_of, has, page_of_line, Located, Private, Shared, Refused, lines_at, Virtual, Pool, frame_at, Reach, place_of, byte_in_frame, byte_over, bytes_over, private_bytes, is_line_marked, is_marked, IsClean, seat_of, is_there, put_byte, put_in_store, put_at, IsSound, Lies, StaysClean, LeavesSeats, nat_tests, overlaid_before, overlaid_behind, overlaid_within}
+use Rattle.storage_unit.proofs.Common.{◌≡◌, ◌≢◌, ℕ, ◌+◌, ◌-◌, ◌*◌, ◌/◌, ◌%◌, ◌<◌, ◌≤◌, Bool, true, false, List, [], length, drop, refl, sym, ◌∙◌, ap, arith, Option, Some, None, inl, inr, ◌||◌, slice_index, slice_range, is_some, cases_lt, get_or_past, length-take, length-drop, same_number_lists, overlaid, length-overlaid, page_bytes, byte_count, line_of, page_of, has, page_of_line, Located, Private, Shared, Refused, lines_at, Virtual, Pool, frame_at, Reach, byte_place, byte_in_frame, byte_over, bytes_over, private_bytes, is_line_marked, is_marked, IsClean, seat_selected, is_there, put_byte, put_in_store, put_at, IsReachSound, Lies, StaysClean, LeavesSeats, nat_tests, overlaid_before, overlaid_behind, overlaid_within}
 use Rattle.frame_pool.proofs.SoundLemmas.{or_none}
 use Rattle.storage_unit.proofs.SizeLemmas.{rest-below, place-is, frame-high, page-of-line, page-below}
 use Rattle.storage_unit.proofs.ByteLemmas.{in-range, same-bytes, byte-of-all, all-long, over-none, over-some}
@@ -15,15 +15,15 @@ pub record Put (old new : Reach) : Type 0 where
   pub at : Virtual
   pub bytes : List ℕ
   pub lies : Lies old at (length bytes)
-  pub is : new ≡ put_at old (place_of old.directory at) bytes
+  pub is : new ≡ put_at old (byte_place old.directory at) bytes
 
 -- a place of the store that some bytes have
-pub shared-within : (state : Reach) (at : Virtual) (n a : ℕ) → Lies state at n → place_of state.directory at ≡ Shared a → a + n ≤ byte_count state.directory
+pub shared-within : (state : Reach) (at : Virtual) (n a : ℕ) → Lies state at n → byte_place state.directory at ≡ Shared a → a + n ≤ byte_count state.directory
 shared-within state at n a lies is = grind (arith, nat_tests)
 
 -- private bytes lie in the frames of the seat that is selected
-pub private-fits : (state : Reach) (at : Virtual) (n a : ℕ) → Lies state at n → place_of state.directory at ≡ Private a
-    → (seat_of state < 16) × (state.runner ≡ seat_of state + 1) × (a + n ≤ 16384)
+pub private-fits : (state : Reach) (at : Virtual) (n a : ℕ) → Lies state at n → byte_place state.directory at ≡ Private a
+    → (seat_selected state < 16) × (state.runner ≡ seat_selected state + 1) × (a + n ≤ 16384)
 private-fits state at n a lies is = grind (arith, nat_tests)
 
 pub range-long : (xs : List ℕ) (from count : ℕ) → from + count ≤ length xs → length (slice_range xs from (from + count)) ≡ count
@@ -65,7 +65,7 @@ over-in-part xs bytes from count a fits inside =
     (long ∙ sym (length-overlaid (slice_range xs from (from + count)) a bytes (omega (arith, whole, inside)) ∙ whole))
     (λ k below. element k (omega (arith, below, long)))
 
-module _ (state : Reach) (sound : IsSound state) where
+module _ (state : Reach) (sound : IsReachSound state) where
   -- private bytes stay where the store's are written
   pub private-after : (from : ℕ) (bytes : List ℕ) (seat : ℕ) → seat < 16 → private_bytes (put_in_store state.directory state.pool from bytes) seat ≡ private_bytes state.pool seat
   private-after from bytes seat few =
@@ -233,23 +233,23 @@ module _ (state : Reach) (sound : IsSound state) where
             let clash : true ≡ false = sym among ∙ not in
             cc
 
-module _ (state : Reach) (sound : IsSound state) (at : Virtual) (bytes : List ℕ) (lies : Lies state at (length bytes)) where
-  pub put-clean : StaysClean state (put_at state (place_of state.directory at) bytes)
-  put-clean committed long clean = by_place (place_of state.directory at) refl
+module _ (state : Reach) (sound : IsReachSound state) (at : Virtual) (bytes : List ℕ) (lies : Lies state at (length bytes)) where
+  pub put-clean : StaysClean state (put_at state (byte_place state.directory at) bytes)
+  put-clean committed long clean = by_place (byte_place state.directory at) refl
     where
-      by_place : (place : Located) → place_of state.directory at ≡ place → IsClean (put_at state place bytes).directory (put_at state place bytes).pool committed
+      by_place : (place : Located) → byte_place state.directory at ≡ place → IsClean (put_at state place bytes).directory (put_at state place bytes).pool committed
       by_place (Private a) is = λ place frame below there unmarked.
           let (few, runner, fits) = private-fits state at (length bytes) a lies is in
-          frame-stays state sound a bytes (seat_of state) few fits place frame there ∙ clean place frame below there unmarked
+          frame-stays state sound a bytes (seat_selected state) few fits place frame there ∙ clean place frame below there unmarked
       by_place (Shared a) is = clean-after state sound a bytes (shared-within state at (length bytes) a lies is) committed clean
       by_place (Refused code) is = absurd (never-refused state.directory at code is)
 
-  pub put-seats : LeavesSeats state (put_at state (place_of state.directory at) bytes)
-  put-seats seat few other = by_place (place_of state.directory at) refl
+  pub put-seats : LeavesSeats state (put_at state (byte_place state.directory at) bytes)
+  put-seats seat few other = by_place (byte_place state.directory at) refl
     where
-      by_place : (place : Located) → place_of state.directory at ≡ place → private_bytes (put_at state place bytes).pool seat ≡ private_bytes state.pool seat
+      by_place : (place : Located) → byte_place state.directory at ≡ place → private_bytes (put_at state place bytes).pool seat ≡ private_bytes state.pool seat
       by_place (Private a) is =
           let (low, runner, fits) = private-fits state at (length bytes) a lies is in
-          private-other state sound a bytes (seat_of state) low fits seat few (λ same. other (omega (arith, same, runner)))
+          private-other state sound a bytes (seat_selected state) low fits seat few (λ same. other (omega (arith, same, runner)))
       by_place (Shared a) is = private-after state sound a bytes seat few
       by_place (Refused code) is = absurd (never-refused state.directory at code is)

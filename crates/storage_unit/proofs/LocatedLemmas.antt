@@ -1,9 +1,9 @@
 -- An access under the segment registers of a program lies where the plain machine has it.
-use Rattle.storage_unit.proofs.Common.{arith, nat_tests, Layout, IsLegal, virtual_at, located_under, located_by, Private, Program, in_register, located, register_of_window, registers_of_program, named-low, Reach, private_segment, is_private, place_at, seat_of, HasWindows, ◌≡◌, ℕ, zero, suc, ◌/◌, ◌%◌, ◌^◌, Bool, true, slice_index_or, None, Ok}
+use Rattle.storage_unit.proofs.Common.{arith, nat_tests, Layout, AreSegmentsLegal, virtual_at, located_under, located_by, Private, Program, in_register, located, register_of_window, registers_of_program, named-low, Reach, private_segment, is_private, place_at, seat_selected, HasWindows, ◌≡◌, ℕ, zero, suc, ◌/◌, ◌%◌, ◌^◌, Bool, true, slice_index_or, None, Ok}
 use Rattle.std.proofs.Math.ListN.{get_or-map}
 use Rattle.storage_unit.proofs.PlaceLemmas.{offset-is}
 
-module _ (d : Layout) (legal : IsLegal d.segments) (seat : ℕ) where
+module _ (d : Layout) (legal : AreSegmentsLegal d.segments) (seat : ℕ) where
   own : is_private (private_segment seat) ≡ true
   own = grind (arith, nat_tests)
 
@@ -17,6 +17,6 @@ module _ (d : Layout) (legal : IsLegal d.segments) (seat : ℕ) where
 
 -- an access lies where the plain machine has it
 pub lies-where :
-    (state : Reach) (p : Program) → IsLegal state.directory.segments → HasWindows state p → (address n : ℕ) (store : Bool)
+    (state : Reach) (p : Program) → AreSegmentsLegal state.directory.segments → HasWindows state p → (address n : ℕ) (store : Bool)
     → place_at state.directory (located_by state.registers address n store) ≡ located p state.directory address n store
-lies-where state p legal windows address n store = grind (arith, nat_tests, register-lies state.directory legal (seat_of state) p (address / 2 ^ 28) (address % 2 ^ 28) n store)
+lies-where state p legal windows address n store = grind (arith, nat_tests, register-lies state.directory legal (seat_selected state) p (address / 2 ^ 28) (address % 2 ^ 28) n store)

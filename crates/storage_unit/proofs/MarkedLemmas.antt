@@ -1,5 +1,5 @@
 -- A store to lines that are marked leaves the marks.
-use Rattle.storage_unit.proofs.Common.{◌≡◌, ℕ, Bool, ◌+◌, ◌-◌, ◌*◌, ◌/◌, ◌%◌, ◌<◌, ◌≤◌, ◌==◌, ◌&&◌, ◌||◌, nat_le, if◌then◌else◌, true, false, List, [], length, sym, ◌∙◌, ap, subst, arith, nat_tests, Option, Some, inl, inr, cases_Bool, option_map_or, slice_set, page_bytes, line_bytes, start_of, line_of, page_of, page_of_line, between, where-alike, is_in_where-below, has, Virtual, key_of, look_up, Pool, marks_at, marked_in, with_marks, with_bytes, lines_of_part, with_frame_part, lent-part, refl, Access, Unit, Reach, is_private, offset_of, place_of, put_at, seat_pages, table_of, IsSound, Lies, reach_of, set-get_or, AreMarked, IsOpenFrom, OpenLine, ReadyRows, known, AreReady, after_store, AreClear, AreUsed}
+use Rattle.storage_unit.proofs.Common.{◌≡◌, ℕ, Bool, ◌+◌, ◌-◌, ◌*◌, ◌/◌, ◌%◌, ◌<◌, ◌≤◌, ◌==◌, ◌&&◌, ◌||◌, nat_le, if◌then◌else◌, true, false, List, [], length, sym, ◌∙◌, ap, subst, arith, nat_tests, Option, Some, inl, inr, cases_Bool, option_map_or, slice_set, page_bytes, line_bytes, start_of, line_of, page_of, page_of_line, between, where-alike, is_in_where-below, has, Virtual, key_of, look_up, Pool, marks_at, marked_in, with_marks, with_bytes, lines_of_part, with_frame_part, lent-part, refl, Access, Unit, Reach, is_private, offset_of, byte_place, put_at, seat_pages, table_of, IsReachSound, Lies, reach_of, set-get_or, AreMarked, IsOpenFrom, OpenLine, ReadyRows, known, AreReady, after_store, AreClear, AreUsed}
 use Rattle.storage_unit.proofs.SizeLemmas.{seat-frame, seat-page, page-of-line, same-page-on, line-in, rest-on}
 use Rattle.storage_unit.proofs.PlaceLemmas.{finds-own, place-byte}
 use Rattle.storage_unit.proofs.LineLemmas.{lies-one, page-found}
@@ -19,7 +19,7 @@ either a b is = grind (arith, nat_tests)
 order : (a b : ℕ) → nat_le a b ≡ true → a ≤ b
 order a b is = grind (arith, nat_tests)
 
-module _ (state : Reach) (sound : IsSound state) (at : Virtual) (n : ℕ) (some : 0 < n) (lies : Lies state at n) (within : at.byte + n ≤ page_bytes state.directory.page)
+module _ (state : Reach) (sound : IsReachSound state) (at : Virtual) (n : ℕ) (some : 0 < n) (lies : Lies state at n) (within : at.byte + n ≤ page_bytes state.directory.page)
     (frame : ℕ) (found : look_up (table_of state).keys (key_of at) ≡ Some frame) (marked : AreMarked state at n) where
   abbrev place : ℕ
   place = start_of state.directory at.segment + offset_of state.directory.page at
@@ -78,7 +78,7 @@ module _ (unit : Unit) (wants : Access) (line : OpenLine) (some : 0 < wants.byte
       (sym (marks-same (reach_of unit) (unit-sound unit) line.first wants.bytes some lies opens.opens.within line.frame opens.opens.frame (opens.written stores)))
       ∙ sym (pool-after unit line.first line.frame line.first.byte wants.bytes opens.opens.frame refl opens.opens.within (lines_of_part unit.pool.page line.first.byte wants.bytes) part long)
 
-  pub stored-over : (let now : Reach = record (reach_of unit) { pool = with_frame_part unit.pool line.spot part } in now) ≡ put_at (reach_of unit) (place_of unit.directory line.first) part
+  pub stored-over : (let now : Reach = record (reach_of unit) { pool = with_frame_part unit.pool line.spot part } in now) ≡ put_at (reach_of unit) (byte_place unit.directory line.first) part
   stored-over =
       ap (λ (p : Pool). (let now : Reach = record (reach_of unit) { pool = p } in now)) over-same
       ∙ stored-part unit line.first line.frame line.first.byte wants.bytes opens.opens.frame refl opens.opens.within some lies part long

@@ -1,7 +1,7 @@
 -- The lines that a unit knows may be accessed.
-use Rattle.storage_unit.proofs.Common.{cases_lt, inl, inr, ◌≡◌, ℕ, ◌+◌, ◌-◌, ◌*◌, ◌/◌, ◌%◌, ◌<◌, ◌≤◌, ◌^◌, Bool, true, false, refl, sym, ◌∙◌, ap, subst, arith, List, Option, Some, None, Ok, not, ◌&&◌, find, option_map, slice_index_or, nat_tests, PageSize, Two, Four, page_bytes, line_bytes, bytes_of, is_named, Layout, length_of, start_of, page_of_line, grant_of, lets, Key, Placed, entry_at, key_of, look_up, SegmentRegister, Virtual, Registers, located_under, located_by, Access, Probe, answered_at, if_permitted, Reach, is_private, offset_of, place_of, on, table_of, is_kept_from, is_in_frame, refuses, IsSound, IsLegal, Lies, bytes_shown, bytes_from, byte_at, Unit, reach_of, length, length-take, length-drop, slice_range, has, is_marked, [], marked_in, union, slice_set, get_or-set_same, get_or-set_other, get_or_past, is_in_where-below, page_at, with_marks, option_map_or, put_at, Located, IsRefusal, OpenLine, lets_at, is_marked_at, IsOpened, AreOpened, AreMarked, IsOpenAt, IsOpenFrom}
+use Rattle.storage_unit.proofs.Common.{cases_lt, inl, inr, ◌≡◌, ℕ, ◌+◌, ◌-◌, ◌*◌, ◌/◌, ◌%◌, ◌<◌, ◌≤◌, ◌^◌, Bool, true, false, refl, sym, ◌∙◌, ap, subst, arith, List, Option, Some, None, Ok, not, ◌&&◌, find, option_map, slice_index_or, nat_tests, PageSize, Two, Four, page_bytes, line_bytes, bytes_of, is_named, Layout, length_of, start_of, page_of_line, grant_of, lets, Key, Placed, entry_at, key_of, look_up, SegmentRegister, Virtual, Registers, located_under, located_by, Access, Probe, answered_at, if_permitted, Reach, is_private, offset_of, byte_place, on, table_of, is_kept_from, is_in_frame, refuses_byte, IsReachSound, AreSegmentsLegal, Lies, bytes_shown, bytes_from, byte_at, Unit, reach_of, length, length-take, length-drop, slice_range, has, is_marked, [], marked_in, union, slice_set, get_or-set_same, get_or-set_other, get_or_past, is_in_where-below, page_at, with_marks, option_map_or, put_at, Located, IsRefusal, OpenLine, lets_at, is_marked_at, IsLineOpened, AreOpened, AreMarked, IsOpenAt, IsOpenFrom}
 use Rattle.page_table.specs.declared.open_lines.OpenLines.{OpenLines}
-use Rattle.page_table.specs.KnownLines.{known, KnowsNothing, with_line}
+use Rattle.page_table.specs.KnownLines.{known, KnowsNoLine, with_known_line}
 use Rattle.storage_unit.proofs.AnswerLemmas.{permitted-lines}
 use Rattle.storage_unit.proofs.KeyLemmas.{start-whole}
 use Rattle.storage_unit.proofs.LineLemmas.{permitted}
@@ -29,14 +29,14 @@ same-line : (size : PageSize) (start page byte past : ℕ) → start % page_byte
 same-line size start page byte past from whole below = grind (arith, nat_tests)
 
 -- so they are let alike
-lets-same : (d : Layout) (legal : IsLegal d.segments) (table : Placed) (runner : ℕ) (at : Virtual) (past : ℕ) (store : Bool) → at.byte % 128 ≡ 0 → past < 128
+lets-same : (d : Layout) (legal : AreSegmentsLegal d.segments) (table : Placed) (runner : ℕ) (at : Virtual) (past : ℕ) (store : Bool) → at.byte % 128 ≡ 0 → past < 128
     → lets_at d table runner (moved at past) store ≡ lets_at d table runner at store
 lets-same d legal table runner at past store whole below =
     ap (λ line. lets (grant_of (entry_at table (page_of_line line))) runner (line % 16) store)
     (same-line d.page (start_of d at.segment) at.page at.byte past (start-whole d legal at.segment) whole below)
 
 -- and marked alike
-marked-same : (d : Layout) (legal : IsLegal d.segments) (marked : List (List ℕ)) (at : Virtual) (past : ℕ) → at.byte % 128 ≡ 0 → past < 128 → is_marked_at d marked (moved at past) ≡ is_marked_at d marked at
+marked-same : (d : Layout) (legal : AreSegmentsLegal d.segments) (marked : List (List ℕ)) (at : Virtual) (past : ℕ) → at.byte % 128 ≡ 0 → past < 128 → is_marked_at d marked (moved at past) ≡ is_marked_at d marked at
 marked-same d legal marked at past whole below =
     ap (λ line. has (slice_index_or marked (page_of_line line) []) (line % 16))
     (same-line d.page (start_of d at.segment) at.page at.byte past (start-whole d legal at.segment) whole below)
@@ -109,7 +109,7 @@ pair-located registers address store first next whole behind here there =
 
 -- a byte of an access that lies in one page, alone
 byte-located :
-    (state : Reach) (sound : IsSound state) (address n k : ℕ) (store : Bool) (first : Virtual) → k < n → first.byte + n ≤ page_bytes state.directory.page → located_by state.registers address n store ≡ Ok first
+    (state : Reach) (sound : IsReachSound state) (address n k : ℕ) (store : Bool) (first : Virtual) → k < n → first.byte + n ≤ page_bytes state.directory.page → located_by state.registers address n store ≡ Ok first
     → located_by state.registers (address + k) 1 store ≡ Ok (moved first k)
 byte-located state sound address n k store first below within is =
     let told = under state.registers address n store first is in
@@ -127,7 +127,7 @@ byte-located state sound address n k store first below within is =
     )
 
 -- and its block
-module _ (state : Reach) (sound : IsSound state) (address n : ℕ) (store : Bool) (at : Virtual) (some : 0 < n) (is : located_by state.registers address n store ≡ Ok at) where
+module _ (state : Reach) (sound : IsReachSound state) (address n : ℕ) (store : Bool) (at : Virtual) (some : 0 < n) (is : located_by state.registers address n store ≡ Ok at) where
   found : Under state.registers address n at
   found = under state.registers address n store at is
 
@@ -157,8 +157,8 @@ module _ (unit : Unit) (wants : Access) (first : Virtual) (frame past : ℕ) (at
       let place = start_of unit.directory first.segment + offset_of unit.directory.page first in
       let other : is_private first.segment ≡ false = ap (λ (v : Virtual). is_private v.segment) (sym is-at) ∙ own in
       let answer =
-      ap (λ page. answered_at page (is_in_frame state) (refuses state) wants (Ok first)) (sym (registers-page state (unit-sound unit)))
-      ∙ ap (answered_at unit.registers.page (is_in_frame state) (refuses state) wants) (sym opens.located) ∙ opens.permitted in
+      ap (λ page. answered_at page (is_in_frame state) (refuses_byte state) wants (Ok first)) (sym (registers-page state (unit-sound unit)))
+      ∙ ap (answered_at unit.registers.page (is_in_frame state) (refuses_byte state) wants) (sym opens.located) ∙ opens.permitted in
       let (there, free) = permitted-lines state first wants.bytes wants place refl (shared-is unit.directory first other) answer past below in
       let same : start_of unit.directory first.segment + offset_of unit.directory.page (moved first past) ≡ place + past = omega arith in
       grind (arith, nat_tests, is-at, same, free)
@@ -172,7 +172,7 @@ module _ (unit : Unit) (wants : Access) (first : Virtual) (frame past : ℕ) (at
       (weaker unit.registers (wants.address + past) 1 wants.store line.write at less
       (byte-located state (unit-sound unit) wants.address wants.bytes past wants.store first below opens.within opens.located ∙ ap (λ v. Ok v) (sym is-at)))
 
-  block-opened : IsOpened unit.directory unit.table unit.registers unit.pool.marked unit.runner ((wants.address + past) / 128) line
+  block-opened : IsLineOpened unit.directory unit.table unit.registers unit.pool.marked unit.runner ((wants.address + past) / 128) line
   block-opened = record {
     located = block-from ∙ ap (λ v. Ok v) (sym from);
     frame =
@@ -191,7 +191,7 @@ module _ (unit : Unit) (wants : Access) (first : Virtual) (frame past : ℕ) (at
   }
 
   pub opened-with :
-      (after : OpenLines) → ((block : ℕ) → known after block ≡ with_line ((wants.address + past) / 128) line block (known unit.lines block))
+      (after : OpenLines) → ((block : ℕ) → known after block ≡ with_known_line ((wants.address + past) / 128) line block (known unit.lines block))
       → AreOpened after unit.directory unit.table unit.registers unit.pool.marked unit.runner
   opened-with after left block other is = grind (arith, nat_tests, left block, block-opened, unit.opened block other)
 
@@ -220,7 +220,7 @@ pub open-after : (state : Reach) (place : Located) (bytes : List ℕ) (wants : A
 open-after state place bytes wants first frame opens = grind (arith, nat_tests)
 
 -- where none is known, all are open
-pub opened-none : (lines : OpenLines) (directory : Layout) (table : Placed) (registers : Registers) (runner : ℕ) {marked : List (List ℕ)} → KnowsNothing lines → AreOpened lines directory table registers marked runner
+pub opened-none : (lines : OpenLines) (directory : Layout) (table : Placed) (registers : Registers) (runner : ℕ) {marked : List (List ℕ)} → KnowsNoLine lines → AreOpened lines directory table registers marked runner
 opened-none lines directory table registers runner none block line is = absurd (let clash : None ≡ Some line = sym (none block) ∙ is in cc)
 
 -- the first byte of a line that is known is one of its page, and its spot is one of as many frames
@@ -233,7 +233,7 @@ opened-low unit wants line is =
 -- an access among bytes of one page that are located together, each of which the entry lets, may be made
 module _ (unit : Unit) (wants : Access) (line : OpenLine) (all : ℕ) (some : 0 < wants.bytes) (few : wants.bytes ≤ 255) (fits : wants.address % 128 + wants.bytes ≤ all)
     (together : located_by unit.registers (wants.address / 128 * 128) all wants.store ≡ Ok line.first) (room : line.first.byte + all ≤ page_bytes unit.directory.page)
-    (told : IsOpened unit.directory unit.table unit.registers unit.pool.marked unit.runner (wants.address / 128) line)
+    (told : IsLineOpened unit.directory unit.table unit.registers unit.pool.marked unit.runner (wants.address / 128) line)
     (lets : is_private line.first.segment ≡ false → (k : ℕ) → k < all → lets_at unit.directory unit.table unit.runner (moved line.first k) wants.store ≡ true)
     (marks : wants.store ≡ true → is_private line.first.segment ≡ false → (k : ℕ) → k < all → is_marked_at unit.directory unit.pool.marked (moved line.first k) ≡ true) where
   abbrev at : Virtual
@@ -251,7 +251,7 @@ module _ (unit : Unit) (wants : Access) (line : OpenLine) (all : ℕ) (some : 0 
   further : (k : ℕ) → start_of unit.directory at.segment + offset_of unit.directory.page at + k ≡ start_of unit.directory line.first.segment + offset_of unit.directory.page (moved line.first (wants.address % 128 + k))
   further k = omega arith
 
-  kept : (k : ℕ) → k < wants.bytes → is_kept_from (reach_of unit) (on (place_of unit.directory at) k) wants.store ≡ false
+  kept : (k : ℕ) → k < wants.bytes → is_kept_from (reach_of unit) (on (byte_place unit.directory at) k) wants.store ≡ false
   kept k below =
       let far : wants.address % 128 + k < all = omega (arith, fits, below) in
       grind (arith, nat_tests, private-is unit.directory at, shared-is unit.directory at, further k, far, lets)
@@ -276,7 +276,7 @@ module _ (unit : Unit) (wants : Access) (line : OpenLine) (all : ℕ) (some : 0 
 
 -- the bytes of a line that is known
 module _ (unit : Unit) (block : ℕ) (line : OpenLine) (store : Bool) (less : (store && not line.write) ≡ false) (is : known unit.lines block ≡ Some line) where
-  told : IsOpened unit.directory unit.table unit.registers unit.pool.marked unit.runner block line
+  told : IsLineOpened unit.directory unit.table unit.registers unit.pool.marked unit.runner block line
   told = unit.opened block line is
 
   here : Under unit.registers (block * 128) 128 line.first
@@ -342,7 +342,7 @@ module _ (unit : Unit) (wants : Access) (first : Virtual) (frame : ℕ) (opens :
   pub open-lies : Lies (reach_of unit) first wants.bytes
   open-lies = found-lies unit wants wants.bytes (located_by unit.registers wants.address wants.bytes wants.store) first refl refl opens.located
 
-  pub open-bytes : bytes_shown (reach_of unit) (place_of unit.directory first) wants.bytes ≡ bytes_from (byte_at (reach_of unit)) wants.address wants.bytes
+  pub open-bytes : bytes_shown (reach_of unit) (byte_place unit.directory first) wants.bytes ≡ bytes_from (byte_at (reach_of unit)) wants.address wants.bytes
   open-bytes = found-bytes unit wants wants.bytes (located_by unit.registers wants.address wants.bytes wants.store) first refl refl opens.located
 
   -- each of them alone
@@ -383,7 +383,7 @@ refused-stays probe after before is = grind (arith, nat_tests)
 -- an access that lies in one page may be made where it is permitted
 pub opens-when :
     (unit : Unit) (wants : Access) (first : Virtual) (frame : ℕ) → located_by unit.registers wants.address wants.bytes wants.store ≡ Ok first → first.byte + wants.bytes ≤ page_bytes unit.directory.page
-    → look_up (table_of (reach_of unit)).keys (key_of first) ≡ Some frame → Probe.Permitted ≡ answered_at unit.directory.page (is_in_frame (reach_of unit)) (refuses (reach_of unit)) wants (Ok first)
+    → look_up (table_of (reach_of unit)).keys (key_of first) ≡ Some frame → Probe.Permitted ≡ answered_at unit.directory.page (is_in_frame (reach_of unit)) (refuses_byte (reach_of unit)) wants (Ok first)
     → IsOpenAt (reach_of unit) wants first frame
 opens-when unit wants first frame located within found answer = record {
   located = located;

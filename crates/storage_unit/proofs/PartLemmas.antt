@@ -1,5 +1,5 @@
 -- The pool after a part of a frame was written.
-use Rattle.storage_unit.proofs.Common.{◌≡◌, ℕ, Bool, ◌+◌, ◌*◌, ◌≤◌, List, length, arith, Some, length-take, length-drop, page_bytes, Layout, Virtual, key_of, look_up, Pool, marked_in, with_bytes, part_of, with_frame_part, lent-part, Unit, table_of, keys_of, reach_of, nat_tests}
+use Rattle.storage_unit.proofs.Common.{◌≡◌, ℕ, Bool, ◌+◌, ◌*◌, ◌≤◌, List, length, arith, Some, length-take, length-drop, page_bytes, Layout, Virtual, key_of, look_up, Pool, marked_in, with_bytes, frame_part, with_frame_part, lent-part, Unit, table_of, keys_of, reach_of, nat_tests}
 use Rattle.storage_unit.proofs.CopyLemmas.{found-below}
 use Rattle.storage_unit.proofs.UnitLemmas.{unit-sound}
 
@@ -7,7 +7,7 @@ module _ (unit : Unit) (at : Virtual) (frame byte n : ℕ) (is : look_up (table_
   pub room : frame * page_bytes unit.pool.page + byte + n ≤ length unit.pool.bytes
   room = grind (arith, nat_tests, found-below (reach_of unit), unit-sound unit)
 
-  pub part-long : length (part_of unit.pool frame byte n) ≡ n
+  pub part-long : length (frame_part unit.pool frame byte n) ≡ n
   part-long = simp (length-take, length-drop) (omega (arith, room))
 
   -- the pool after the part was written

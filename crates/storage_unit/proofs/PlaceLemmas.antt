@@ -1,5 +1,5 @@
 -- Where the bytes of an access lie, one by one, and the frames that have them.
-use Rattle.storage_unit.proofs.Common.{◌≡◌, ℕ, ◌+◌, ◌-◌, ◌*◌, ◌/◌, ◌%◌, ◌<◌, ◌≤◌, ◌^◌, Bool, true, false, refl, sym, ◌∙◌, ap, subst, arith, replicate, Option, Some, None, Ok, inl, inr, nat_le, nat_lt, slice_index_or, if◌then◌else◌, is_some, cases_lt, nat_tests, get_or-replicate, get_or_past, div-add-mod', PageSize, page_bytes, Layout, length_of, start_of, byte_count, page_of, segment-within, Located, Private, Shared, Refused, SegmentRegister, Virtual, Registers, virtual_at, bytes_on, located_by, key_to, key_of, look_up, frame_at, bytes-low, Reach, is_private, offset_of, place_of, on, IsUnder, AreReached, seat_pages, pages_begun, table_of, byte_of, byte_at, is_there, IsSound, Lies, AreThere}
+use Rattle.storage_unit.proofs.Common.{◌≡◌, ℕ, ◌+◌, ◌-◌, ◌*◌, ◌/◌, ◌%◌, ◌<◌, ◌≤◌, ◌^◌, Bool, true, false, refl, sym, ◌∙◌, ap, subst, arith, replicate, Option, Some, None, Ok, inl, inr, nat_le, nat_lt, slice_index_or, if◌then◌else◌, is_some, cases_lt, nat_tests, get_or-replicate, get_or_past, div-add-mod', PageSize, page_bytes, Layout, length_of, start_of, byte_count, page_of, segment-within, Located, Private, Shared, Refused, SegmentRegister, Virtual, Registers, virtual_at, bytes_on, located_by, key_to, key_of, look_up, frame_at, bytes-low, Reach, is_private, offset_of, byte_place, on, IsUnder, AreReached, seat_pages, pages_begun, table_of, byte_of, byte_at, is_there, IsReachSound, Lies, AreThere}
 use Rattle.storage_unit.proofs.SizeLemmas.{rest-below, byte-on-page, page-at, seat-page, same-page-on, page-of-line, page-below}
 use Rattle.storage_unit.proofs.KeyLemmas.{key-of-place, start-whole}
 use Rattle.storage_unit.proofs.HeldLemmas.{finds-page, finds-private}
@@ -20,14 +20,14 @@ pub offset-is : (page : PageSize) (segment offset : ℕ) → offset_of page (vir
 offset-is page segment offset = div-add-mod' offset (page_bytes page)
 
 -- a byte so many on lies so many bytes on
-pub place-on : (directory : Layout) (at : Virtual) (k : ℕ) → place_of directory (bytes_on directory.page at k) ≡ on (place_of directory at) k
+pub place-on : (directory : Layout) (at : Virtual) (k : ℕ) → byte_place directory (bytes_on directory.page at k) ≡ on (byte_place directory at) k
 place-on directory at k = grind (arith, nat_tests)
 
 pub on-on : (place : Located) (j k : ℕ) → on (on place j) k ≡ on place (j + k)
 on-on place j k = grind (arith, nat_tests)
 
 -- a byte lies somewhere
-pub never-refused : (directory : Layout) (at : Virtual) (code : ℕ) → place_of directory at ≡ Refused code → ⊥
+pub never-refused : (directory : Layout) (at : Virtual) (code : ℕ) → byte_place directory at ≡ Refused code → ⊥
 never-refused directory at code is = grind (arith, nat_tests)
 
 -- a seat that is selected
@@ -38,14 +38,14 @@ pub record Selected (state : Reach) : Type 0 where
   pub begun : slice_index_or state.begun seat false ≡ true
   pub reached : AreReached state.directory seat state.registers
 
-pub selected : (state : Reach) → IsSound state → 1 ≤ state.runner → Selected state
+pub selected : (state : Reach) → IsReachSound state → 1 ≤ state.runner → Selected state
 selected state sound some =
     let is : state.runner ≡ (state.runner - 1) + 1 = omega (arith, some) in
     let told = sound.selected.seat (state.runner - 1) is in
     record { seat = state.runner - 1; runner = is; few = omega (arith, sound.selected.few, some); begun = told.0; reached = told.1 }
 
 -- the registers go by the store's pages
-pub registers-page : (state : Reach) → IsSound state → state.registers.page ≡ state.directory.page
+pub registers-page : (state : Reach) → IsReachSound state → state.registers.page ≡ state.directory.page
 registers-page state sound = elim (cases_lt 0 state.runner) [
   | inl some ↦ (selected state sound some).reached.page
   | inr none ↦ ap (λ (registers : Registers). registers.page) (sound.selected.none (omega (arith, none)))
@@ -55,7 +55,7 @@ registers-page state sound = elim (cases_lt 0 state.runner) [
 pub no-register : (state : Reach) (address : ℕ) {n : ℕ} (at : Virtual) → Under state.registers address n at → state.registers ≡ record { page = state.directory.page; list = replicate 16 None } → ⊥
 no-register state address at u is = grind (arith, nat_tests, get_or-replicate, get_or_past, u.stands)
 
-module _ (state : Reach) (sound : IsSound state) (address n : ℕ) (at : Virtual) (u : Under state.registers address n at) where
+module _ (state : Reach) (sound : IsReachSound state) (address n : ℕ) (at : Virtual) (u : Under state.registers address n at) where
   -- where something stands under a register a seat is selected
   pub one : Selected state
   one = elim (cases_lt 0 state.runner) [
@@ -100,14 +100,14 @@ module _ (state : Reach) (sound : IsSound state) (address n : ℕ) (at : Virtual
       grind (arith, nat_tests, u.stands, registers-page state sound)
 
   -- the byte shown there
-  pub byte-on : (k : ℕ) → k < n → byte_at state (address + k) ≡ byte_of state (on (place_of state.directory at) k)
+  pub byte-on : (k : ℕ) → k < n → byte_at state (address + k) ≡ byte_of state (on (byte_place state.directory at) k)
   byte-on k below = grind (arith, nat_tests, part, place-on)
 
   pub itself : at ≡ virtual_at state.directory.page at.segment (offset_of state.directory.page at)
   itself = is-at ∙ ap (λ s. virtual_at state.directory.page s (address % 2 ^ 28)) (sym segment) ∙ ap (virtual_at state.directory.page at.segment) (sym located-offset)
 
 -- the first byte of a range that isn't refused, as it is located alone
-pub first-byte : (state : Reach) → IsSound state → (address n : ℕ) (store : Bool) (at : Virtual) → located_by state.registers address n store ≡ Ok at → located_by state.registers address 0 false ≡ Ok at
+pub first-byte : (state : Reach) → IsReachSound state → (address n : ℕ) (store : Bool) (at : Virtual) → located_by state.registers address n store ≡ Ok at → located_by state.registers address 0 false ≡ Ok at
 first-byte state sound address n store at is = grind (arith, nat_tests)
 
 -- bytes behind some of them lie there too
@@ -118,20 +118,20 @@ pub there-on : (state : Reach) (at : Virtual) (k m n : ℕ) → k + m ≤ n → 
 there-on state at k m n less there past below = grind (arith, nat_tests, place-on, on-on)
 
 -- a place of private storage, or of the store
-pub private-is : (d : Layout) (at : Virtual) → is_private at.segment ≡ true → place_of d at ≡ Private (offset_of d.page at)
+pub private-is : (d : Layout) (at : Virtual) → is_private at.segment ≡ true → byte_place d at ≡ Private (offset_of d.page at)
 private-is d at own = ap (λ (b : Bool). if b then Private (offset_of d.page at) else Shared (start_of d at.segment + offset_of d.page at)) own
 
-pub shared-is : (d : Layout) (at : Virtual) → is_private at.segment ≡ false → place_of d at ≡ Shared (start_of d at.segment + offset_of d.page at)
+pub shared-is : (d : Layout) (at : Virtual) → is_private at.segment ≡ false → byte_place d at ≡ Shared (start_of d at.segment + offset_of d.page at)
 shared-is d at own = ap (λ (b : Bool). if b then Private (offset_of d.page at) else Shared (start_of d at.segment + offset_of d.page at)) own
 
-pub is-private : (d : Layout) (at : Virtual) (a : ℕ) → place_of d at ≡ Private a → (is_private at.segment ≡ true) × (offset_of d.page at ≡ a)
+pub is-private : (d : Layout) (at : Virtual) (a : ℕ) → byte_place d at ≡ Private a → (is_private at.segment ≡ true) × (offset_of d.page at ≡ a)
 is-private d at a is = grind (arith, nat_tests)
 
-pub is-shared : (d : Layout) (at : Virtual) (a : ℕ) → place_of d at ≡ Shared a → (is_private at.segment ≡ false) × (start_of d at.segment + offset_of d.page at ≡ a)
+pub is-shared : (d : Layout) (at : Virtual) (a : ℕ) → byte_place d at ≡ Shared a → (is_private at.segment ≡ false) × (start_of d at.segment + offset_of d.page at ≡ a)
 is-shared d at a is = grind (arith, nat_tests)
 
 -- the frame that the table finds for some bytes that lie there
-module _ (state : Reach) (sound : IsSound state) (at : Virtual) (n : ℕ) (some : 0 < n) (lies : Lies state at n) where
+module _ (state : Reach) (sound : IsReachSound state) (at : Virtual) (n : ℕ) (some : 0 < n) (lies : Lies state at n) where
   pub finds-own : (seat : ℕ) → state.runner ≡ seat + 1 → is_private at.segment ≡ true → look_up (table_of state).keys (key_of at) ≡ Some (seat * seat_pages state.directory.page + at.page)
   finds-own seat is own =
       let (other, runner, few, segment, begun, fits) = lies.private own in
@@ -160,10 +160,10 @@ module _ (state : Reach) (sound : IsSound state) (at : Virtual) (n : ℕ) (some 
   place-byte = byte-on-page state.directory.page (start_of state.directory at.segment) at.page at.byte (start-whole state.directory sound.legal at.segment) lies.within
 
   -- a byte of the same page is in a frame exactly where the table finds one
-  pub there-found : (k : ℕ) → at.byte + k < page_bytes state.directory.page → is_there state (on (place_of state.directory at) k) ≡ is_some (look_up (table_of state).keys (key_of at))
+  pub there-found : (k : ℕ) → at.byte + k < page_bytes state.directory.page → is_there state (on (byte_place state.directory at) k) ≡ is_some (look_up (table_of state).keys (key_of at))
   there-found k within = by_test (is_private at.segment) refl
     where
-      by_test : (own : Bool) → is_private at.segment ≡ own → is_there state (on (place_of state.directory at) k) ≡ is_some (look_up (table_of state).keys (key_of at))
+      by_test : (own : Bool) → is_private at.segment ≡ own → is_there state (on (byte_place state.directory at) k) ≡ is_some (look_up (table_of state).keys (key_of at))
       by_test true own =
           let (seat, runner, few, segment, begun, fits) = lies.private own in
           ap (λ place. is_there state (on place k)) (private-is state.directory at own)

@@ -1,5 +1,5 @@
 -- An attempt over the unit is the row of the plain machine on the bytes that it shows over the committed ones.
-use Rattle.storage_unit.proofs.Common.{◌≡◌, ℕ, ◌+◌, ◌*◌, ◌<◌, ◌≤◌, Bool, true, false, List, [], ◌∷◌, ◌++◌, length, refl, sym, ◌∙◌, ap, subst, arith, Option, Some, None, Result, Ok, Err, ◌⊎◌, inl, inr, ◌==◌, ◌||◌, slice_index, slice_range, slice_set, option_map_or, ne_eqb, nat_tests, length-append, get_or-map-range_with_len, length-map-range_with_len, same_number_lists, has, Lines, no_lines, Virtual, located_by, Located, Private, Shared, Refused, Program, lines_at, touched, Access, Fault, Probe, bytes_from, halfword_of, access_to, answered, answer_in, Seen, Tried, seen_in, refused_by, unless_refused, tried, Reach, private_segment, place_at, on, seat_of, byte_of, byte_at, is_there, is_in_frame, refuses, put_at, stored, bytes_over, private_bytes, is_line_marked, IsSound, Lies, AreThere, plain_over, HasWindows, IsOpen, IsShutOut, IsRow, GoesOpen, MarksWritten, ChangesBytes, StaysClean, LeavesSeats}
+use Rattle.storage_unit.proofs.Common.{◌≡◌, ℕ, ◌+◌, ◌*◌, ◌<◌, ◌≤◌, Bool, true, false, List, [], ◌∷◌, ◌++◌, length, refl, sym, ◌∙◌, ap, subst, arith, Option, Some, None, Result, Ok, Err, ◌⊎◌, inl, inr, ◌==◌, ◌||◌, slice_index, slice_range, slice_set, option_map_or, ne_eqb, nat_tests, length-append, get_or-map-range_with_len, length-map-range_with_len, same_number_lists, has, Lines, no_lines, Virtual, located_by, Located, Private, Shared, Refused, Program, lines_at, touched, Access, Fault, Probe, bytes_from, halfword_of, access_to, answered, answer_in, Seen, Tried, seen_in, refused_by, unless_refused, tried, Reach, private_segment, place_at, on, seat_selected, byte_of, byte_at, is_there, is_in_frame, refuses_byte, put_at, stored, bytes_over, private_bytes, is_line_marked, IsReachSound, Lies, AreThere, plain_over, HasWindows, IsOpen, IsShutOut, IsRow, GoesOpen, MarksWritten, ChangesBytes, StaysClean, LeavesSeats}
 use Rattle.page_table.specs.declared.segment_regs.Check.{Check as Wrong}
 use Rattle.flat_machine.specs.declared.machine.Act.{Act}
 use Rattle.flat_machine.specs.declared.machine.Cs.{Cs}
@@ -8,7 +8,7 @@ use Rattle.flat_machine.specs.Plans.{Plan, Does, Fails}
 use Rattle.flat_machine.specs.Row.{Outcome, On, Commit, Check, plan, plan_at, located, loads, stores, stored_bytes, moved, with_link, row_by, row}
 use Rattle.romp_cpu.specs.declared.cpu.Attempt.{Attempt}
 use Rattle.romp_cpu.specs.declared.cpu.Cpu.{Cpu}
-use Rattle.romp_cpu.specs.Attempts.{access_of_plan, place_of, bytes_in, ChecksAlike, Agrees, GivesRow, GivesAll, GivesBy, GivesOver, GivesPlan, GivesEveryRow, IsCpuOf, StoresAll, left_by, state_after, lines_of_access}
+use Rattle.romp_cpu.specs.Attempts.{access_of_plan, access_place, bytes_in, ChecksAlike, Agrees, GivesRow, GivesAll, GivesBy, GivesOver, GivesPlan, GivesEveryRow, IsCpuOf, StoresAll, stored_by, state_after, lines_of_access}
 use Rattle.romp_cpu.proofs.AttemptLemmas.{plan-same}
 use Rattle.romp_cpu.proofs.SegmentLemmas.{checks-alike}
 use Rattle.storage_unit.specs.Places as places
@@ -23,7 +23,7 @@ use Rattle.storage_unit.proofs.LeftLemmas.{Put, range-long, shared-within, priva
 
 -- what is seen of a storage of flat bytes
 abbrev pub seen_of : Reach → Seen Reach
-seen_of f = seen_in byte_at (answer_in (λ (g : Reach). g.registers) is_in_frame refuses) stored f
+seen_of f = seen_in byte_at (answer_in (λ (g : Reach). g.registers) is_in_frame refuses_byte) stored f
 
 -- a row that fails goes nowhere
 link-checks : (link : Option (ℕ × ℕ)) (code : ℕ) (n : Plain) → with_link link (Check code) ≡ On n → ⊥
@@ -48,13 +48,13 @@ record StorePut (f : Reach) (address count : ℕ) (bytes : List ℕ) : Type 0 wh
   found : located_by f.registers address count true ≡ Ok at
   lies : Lies f at (length bytes)
   there : AreThere f at (length bytes)
-  is : stored f address bytes ≡ put_at f (places.place_of f.directory at) bytes
+  is : stored f address bytes ≡ put_at f (places.byte_place f.directory at) bytes
 
-store-put : (f : Reach) → IsSound f → (address count : ℕ) (bytes : List ℕ) → 0 < count → length bytes ≡ count
-    → answered f.registers (is_in_frame f) (refuses f) (access_to address count true) ≡ Probe.Permitted → StorePut f address count bytes
+store-put : (f : Reach) → IsReachSound f → (address count : ℕ) (bytes : List ℕ) → 0 < count → length bytes ≡ count
+    → answered f.registers (is_in_frame f) (refuses_byte f) (access_to address count true) ≡ Probe.Permitted → StorePut f address count bytes
 store-put f sound address count bytes some long permitted =
     let none : (length bytes == 0) ≡ false = ne_eqb (length bytes) 0 (λ same. absurd (omega (arith, some, long, same))) in
-    let (at, found) = permitted-located f.registers (is_in_frame f) (refuses f) (access_to address count true) permitted in
+    let (at, found) = permitted-located f.registers (is_in_frame f) (refuses_byte f) (access_to address count true) permitted in
     let u = under f.registers address count true at found in
     record {
       at = at;
@@ -67,7 +67,7 @@ store-put f sound address count bytes some long permitted =
     }
 
 -- an attempt leaves the state as it was, or with some bytes put
-module _ (f : Reach) (sound : IsSound f) (cpu : Cpu) where
+module _ (f : Reach) (sound : IsReachSound f) (cpu : Cpu) where
   abbrev Tries : Reach → Type 0
   Tries state = (state ≡ f) ⊎ Put f state
 
@@ -109,7 +109,7 @@ module _ (f : Reach) (sound : IsSound f) (cpu : Cpu) where
       | inr put ↦ subst (LeavesSeats f) (sym put.is) (put-seats f sound put.at put.bytes put.lies)
     ]
 
-module _ (f : Reach) (sound : IsSound f) (p : Program) (windows : HasWindows f p) (cpu : Cpu) (committed out : List ℕ) (printed : length out ≡ cpu.printed) where
+module _ (f : Reach) (sound : IsReachSound f) (p : Program) (windows : HasWindows f p) (cpu : Cpu) (committed out : List ℕ) (printed : length out ≡ cpu.printed) where
   abbrev plain : Plain
   plain = plain_over committed cpu f out
 
@@ -118,23 +118,23 @@ module _ (f : Reach) (sound : IsSound f) (p : Program) (windows : HasWindows f p
 
   -- the plain state after it has the bytes of a state of the unit
   abbrev After : Plain → Reach → Type 0
-  After n state = Leaves plain n (private_bytes state.pool (seat_of state)) (bytes_over state.directory state.pool committed)
+  After n state = Leaves plain n (private_bytes state.pool (seat_selected state)) (bytes_over state.directory state.pool committed)
 
   -- the access of a plan is permitted
   abbrev IsPermitted : Plan → Type 0
   IsPermitted plan = (access : Access) → access_of_plan plan ≡ Some access → seen.answer access ≡ Probe.Permitted
 
-  seat-few : seat_of f < 16
+  seat-few : seat_selected f < 16
   seat-few = let one = selected f sound windows.selected in omega (arith, one.runner, one.few)
 
   stores-leave : (link : Option (ℕ × ℕ)) (regs : List ℕ) (cs : Cs) (next : ℕ) (at : Virtual) (place : Located) (bytes : List ℕ) (n : Plain)
-      → places.place_of f.directory at ≡ place → Lies f at (length bytes) → AreThere f at (length bytes)
+      → places.byte_place f.directory at ≡ place → Lies f at (length bytes) → AreThere f at (length bytes)
       → with_link link (stores (moved plain regs cs next) place bytes) ≡ On n → After n (put_at f place bytes)
   stores-leave link regs cs next at (Private a) bytes n lies-at inside there is =
       let (few, runner, fits) = private-fits f at (length bytes) a inside lies-at in
-      retold (kept link _ plain n refl is) (sym (private-own f sound a bytes (seat_of f) few fits)) (sym (store-stays f sound a bytes (seat_of f) few fits committed))
+      retold (kept link _ plain n refl is) (sym (private-own f sound a bytes (seat_selected f) few fits)) (sym (store-stays f sound a bytes (seat_selected f) few fits committed))
   stores-leave link regs cs next at (Shared a) bytes n lies-at inside there is =
-      retold (kept link _ plain n refl is) (sym (private-after f sound a bytes (seat_of f) seat-few))
+      retold (kept link _ plain n refl is) (sym (private-after f sound a bytes (seat_selected f) seat-few))
       (sym (store-after f sound a bytes (shared-within f at (length bytes) a inside lies-at) committed (λ k below. ap (λ place. is_there f (on place k)) (sym lies-at) ∙ there k below)))
   stores-leave link regs cs next at (Refused code) bytes n lies-at inside there is = absurd (never-refused f.directory at code lies-at)
 
@@ -142,13 +142,13 @@ module _ (f : Reach) (sound : IsSound f) (p : Program) (windows : HasWindows f p
       → with_link link (stores (moved plain regs cs next) (located p f.directory address count true) bytes) ≡ On n
       → After n (stored f address bytes)
   store-leaves link regs cs next address count bytes n put is =
-      let lies-at : places.place_of f.directory put.at ≡ located p f.directory address count true =
+      let lies-at : places.byte_place f.directory put.at ≡ located p f.directory address count true =
       sym (ap (place_at f.directory) put.found) ∙ lies-where f p sound.legal windows address count true in
       subst (After n) (sym put.is)
-      (stores-leave link regs cs next put.at (places.place_of f.directory put.at) bytes n refl put.lies put.there
+      (stores-leave link regs cs next put.at (places.byte_place f.directory put.at) bytes n refl put.lies put.there
       (ap (λ place. with_link link (stores (moved plain regs cs next) place bytes)) lies-at ∙ is))
 
-  plan-leaves : (plan : Plan) (n : Plain) → StoresAll plan → IsPermitted plan → row_by p f.directory plain plan ≡ On n → After n (left_by seen plan)
+  plan-leaves : (plan : Plan) (n : Plain) → StoresAll plan → IsPermitted plan → row_by p f.directory plain plan ≡ On n → After n (stored_by seen plan)
   plan-leaves (Fails code) n whole permitted is = absurd (cc)
   plan-leaves (Does regs cs Act.Nothing next link) n whole permitted is = kept link (moved plain regs cs next) plain n refl is
   plan-leaves (Does regs cs (Act.Load address bytes to sign) next link) n whole permitted is = grind (arith, nat_tests)
@@ -163,7 +163,7 @@ module _ (f : Reach) (sound : IsSound f) (p : Program) (windows : HasWindows f p
   or-none : (b : Bool) → b ≡ (b || false)
   or-none b = grind (arith, nat_tests)
 
-  place-marks : (at : Virtual) (place : Located) (bytes : List ℕ) (count : ℕ) → length bytes ≡ count → places.place_of f.directory at ≡ place → Lies f at (length bytes) → (line : ℕ)
+  place-marks : (at : Virtual) (place : Located) (bytes : List ℕ) (count : ℕ) → length bytes ≡ count → places.byte_place f.directory at ≡ place → Lies f at (length bytes) → (line : ℕ)
       → is_line_marked (put_at f place bytes).pool line ≡ (is_line_marked f.pool line || has (lines_at f.directory place count) line)
   place-marks at (Private a) bytes count long lies-at inside line = or-none (is_line_marked f.pool line)
   place-marks at (Shared a) bytes count long lies-at inside line = grind (arith, nat_tests, marks-written f sound a bytes (shared-within f at (length bytes) a inside lies-at) line, shared-within f)
@@ -173,7 +173,7 @@ module _ (f : Reach) (sound : IsSound f) (p : Program) (windows : HasWindows f p
       → is_line_marked (stored f address bytes).pool line ≡ (is_line_marked f.pool line || has (lines_at f.directory (located p f.directory address count true) count) line)
   store-marks address count bytes long put line = grind (arith, nat_tests, lies-where, place-marks)
 
-  plan-marks : (plan : Plan) → StoresAll plan → IsPermitted plan → MarksWritten f.pool (left_by seen plan).pool (option_map_or (lines_of_access p f.directory) (access_of_plan plan) no_lines)
+  plan-marks : (plan : Plan) → StoresAll plan → IsPermitted plan → MarksWritten f.pool (stored_by seen plan).pool (option_map_or (lines_of_access p f.directory) (access_of_plan plan) no_lines)
   plan-marks (Fails code) whole permitted line = or-none (is_line_marked f.pool line)
   plan-marks (Does regs cs Act.Nothing next link) whole permitted line = or-none (is_line_marked f.pool line)
   plan-marks (Does regs cs (Act.Load address bytes to sign) next link) whole permitted line = or-none (is_line_marked f.pool line)
@@ -199,27 +199,27 @@ module _ (f : Reach) (sound : IsSound f) (p : Program) (windows : HasWindows f p
   stores-go link s (Shared at) bytes there = link-goes link _
   stores-go link s (Refused code) bytes there = absurd (there code refl)
 
-  plan-goes : (plan : Plan) (access : Access) → access_of_plan plan ≡ Some access → ((code : ℕ) → place_of p f.directory access ≡ Refused code → ⊥)
+  plan-goes : (plan : Plan) (access : Access) → access_of_plan plan ≡ Some access → ((code : ℕ) → access_place p f.directory access ≡ Refused code → ⊥)
       → (n : Plain) × (row_by p f.directory plain plan ≡ On n)
   plan-goes (Fails code) access is there = absurd (cc)
   plan-goes (Does regs cs Act.Nothing next link) access is there = absurd (cc)
   plan-goes (Does regs cs (Act.Load address bytes to sign) next link) access is there =
       let same : record { address = address; bytes = bytes; store = false } ≡ access = cc in
-      loads-go link (moved plain regs cs next) (located p f.directory address bytes false) bytes to sign (λ code refused. there code (ap (place_of p f.directory) (sym same) ∙ refused))
+      loads-go link (moved plain regs cs next) (located p f.directory address bytes false) bytes to sign (λ code refused. there code (ap (access_place p f.directory) (sym same) ∙ refused))
   plan-goes (Does regs cs (Act.Store address bytes from) next link) access is there =
       let same : record { address = address; bytes = bytes; store = true } ≡ access = cc in
-      stores-go link (moved plain regs cs next) (located p f.directory address bytes true) (stored_bytes regs bytes from) (λ code refused. there code (ap (place_of p f.directory) (sym same) ∙ refused))
+      stores-go link (moved plain regs cs next) (located p f.directory address bytes true) (stored_bytes regs bytes from) (λ code refused. there code (ap (access_place p f.directory) (sym same) ∙ refused))
   plan-goes (Does regs cs (Act.Print byte) next link) access is there = absurd (cc)
   plan-goes (Does regs cs Act.Commit next link) access is there = absurd (cc)
   plan-goes (Does regs cs (Act.Check code) next link) access is there = absurd (cc)
 
   -- the plain state agrees with processor and unit
-  private-long : length (private_bytes f.pool (seat_of f)) ≡ 16384
-  private-long = range-long f.pool.bytes (seat_of f * 16384) 16384 (omega (arith, seat-few, all-private f sound))
+  private-long : length (private_bytes f.pool (seat_selected f)) ≡ 16384
+  private-long = range-long f.pool.bytes (seat_selected f * 16384) 16384 (omega (arith, seat-few, all-private f sound))
 
-  private-all : private_bytes f.pool (seat_of f) ≡ bytes_from (byte_at f) 0 16384
+  private-all : private_bytes f.pool (seat_selected f) ≡ bytes_from (byte_at f) 0 16384
   private-all =
-      same_number_lists (private_bytes f.pool (seat_of f)) (bytes_from (byte_at f) 0 16384) (private-long ∙ sym (length-map-range_with_len (byte_at f) 0 16384))
+      same_number_lists (private_bytes f.pool (seat_selected f)) (bytes_from (byte_at f) 0 16384) (private-long ∙ sym (length-map-range_with_len (byte_at f) 0 16384))
       (λ k below.
       let short : k < 16384 = omega (arith, below, private-long) in
       grind (arith, nat_tests, selected, in-range, private-at, own-located) ∙ sym (get_or-map-range_with_len (byte_at f) 0 16384 k k 0 short (omega arith)))
@@ -229,17 +229,17 @@ module _ (f : Reach) (sound : IsSound f) (p : Program) (windows : HasWindows f p
       → slice_range xs a (a + n) ≡ bytes_from (byte_at f) address n
   same-shown xs address a n fits same = grind (arith, nat_tests, same_number_lists, range-long, length-map-range_with_len, in-range, get_or-map-range_with_len)
 
-  shown-place : (access : Access) (place : Located) → place_of p f.directory access ≡ place → seen.answer access ≡ Probe.Permitted
+  shown-place : (access : Access) (place : Located) → access_place p f.directory access ≡ place → seen.answer access ≡ Probe.Permitted
       → bytes_in plain place access.bytes ≡ bytes_from (byte_at f) access.address access.bytes
   shown-place access place is permitted = by_place place at (sym (ap (place_at f.directory) found) ∙ lies-where f p sound.legal windows access.address access.bytes access.store ∙ is) found
     where
       at : Virtual
-      at = (permitted-located f.registers (is_in_frame f) (refuses f) access permitted).0
+      at = (permitted-located f.registers (is_in_frame f) (refuses_byte f) access permitted).0
 
       found : located_by f.registers access.address access.bytes access.store ≡ Ok at
-      found = (permitted-located f.registers (is_in_frame f) (refuses f) access permitted).1
+      found = (permitted-located f.registers (is_in_frame f) (refuses_byte f) access permitted).1
 
-      by_place : (place : Located) (at : Virtual) → places.place_of f.directory at ≡ place → located_by f.registers access.address access.bytes access.store ≡ Ok at
+      by_place : (place : Located) (at : Virtual) → places.byte_place f.directory at ≡ place → located_by f.registers access.address access.bytes access.store ≡ Ok at
           → bytes_in plain place access.bytes ≡ bytes_from (byte_at f) access.address access.bytes
       by_place (Private a) at lies-at found =
           let u = under f.registers access.address access.bytes access.store at found in
@@ -247,7 +247,7 @@ module _ (f : Reach) (sound : IsSound f) (p : Program) (windows : HasWindows f p
           grind (
             arith,
             nat_tests,
-            same-shown (private_bytes f.pool (seat_of f)) access.address a access.bytes (omega (arith, fits, private-long)) (λ k below. byte-on f sound access.address access.bytes at u k below ∙ ap (λ place. byte_of f (on place k)) lies-at ∙ sym (in-range f.pool.bytes (seat_of f * 16384) 16384 (a + k) (omega (arith, below, fits)))),
+            same-shown (private_bytes f.pool (seat_selected f)) access.address a access.bytes (omega (arith, fits, private-long)) (λ k below. byte-on f sound access.address access.bytes at u k below ∙ ap (λ place. byte_of f (on place k)) lies-at ∙ sym (in-range f.pool.bytes (seat_selected f * 16384) 16384 (a + k) (omega (arith, below, fits)))),
           )
       by_place (Shared a) at lies-at found =
           let u = under f.registers access.address access.bytes access.store at found in
@@ -259,20 +259,20 @@ module _ (f : Reach) (sound : IsSound f) (p : Program) (windows : HasWindows f p
           grind (arith, nat_tests, byte-on f sound access.address access.bytes at u k below, over-some f.directory f.pool committed (a + k) frame has_it, byte-of-all f.directory f.pool committed (a + k) (omega (arith, below, fits))))
       by_place (Refused code) at lies-at found = absurd (never-refused f.directory at code lies-at)
 
-  checks : (access : Access) → ChecksAlike (seen.answer access) (place_of p f.directory access)
-  checks access = grind (arith, nat_tests, checks-alike (is_in_frame f) (refuses f) access p f.directory (private_segment (seat_of f)))
+  checks : (access : Access) → ChecksAlike (seen.answer access) (access_place p f.directory access)
+  checks access = grind (arith, nat_tests, checks-alike (is_in_frame f) (refuses_byte f) access p f.directory (private_segment (seat_selected f)))
 
   agrees : Agrees p f.directory plain cpu seen
   agrees = record {
     same_cpu = record { regs = refl; cs = refl; iar = refl; printed = printed };
     private_shown = private-all;
     same_checks = checks;
-    same_bytes = λ access is permitted. shown-place access (place_of p f.directory access) refl permitted;
+    same_bytes = λ access is permitted. shown-place access (access_place p f.directory access) refl permitted;
   }
 
   -- the next state is that of processor and unit
-  next-is : (n : Plain) (cpu' : Cpu) (state : Reach) (out' : List ℕ) (plan : Plan) → IsCpuOf n cpu' → After n (left_by seen plan)
-      → state ≡ left_by seen plan → n.out ≡ out' → n ≡ plain_over committed cpu' state out'
+  next-is : (n : Plain) (cpu' : Cpu) (state : Reach) (out' : List ℕ) (plan : Plan) → IsCpuOf n cpu' → After n (stored_by seen plan)
+      → state ≡ stored_by seen plan → n.out ≡ out' → n ≡ plain_over committed cpu' state out'
   next-is n cpu' state out' plan same leaves is printed' = grind (arith, nat_tests)
 
   -- what is known where the row goes on
@@ -282,9 +282,9 @@ module _ (f : Reach) (sound : IsSound f) (p : Program) (windows : HasWindows f p
     permitted : IsPermitted (plan_at plain)
 
   goes-open : (n : Plain) (cpu' : Cpu) (state : Reach) (out' : List ℕ) → StoresAll (plan_at plain) → length out ≤ 4096 → row p f.directory plain ≡ On n → Goes
-      → IsCpuOf n cpu' → n.out ≡ out' → state ≡ left_by seen (plan_at plain) → GoesOpen p f state plain (plain_over committed cpu' state out') cpu'
+      → IsCpuOf n cpu' → n.out ≡ out' → state ≡ stored_by seen (plan_at plain) → GoesOpen p f state plain (plain_over committed cpu' state out') cpu'
   goes-open n cpu' state out' whole few is goes same printed' left =
-      let leaves : After n (left_by seen (plan_at plain)) = plan-leaves (plan_at plain) n whole goes.permitted is in
+      let leaves : After n (stored_by seen (plan_at plain)) = plan-leaves (plan_at plain) n whole goes.permitted is in
       let next = next-is n cpu' state out' (plan_at plain) same leaves left printed' in
       record {
         goes = is ∙ ap On next;
@@ -340,9 +340,9 @@ module _ (f : Reach) (sound : IsSound f) (p : Program) (windows : HasWindows f p
             apart : Check code ≡ On n → ⊥
             apart same = cc
 
-        somewhere : (access : Access) (fault : Fault) → seen.answer access ≡ Probe.Fault fault → (code : ℕ) → place_of p f.directory access ≡ Refused code → ⊥
+        somewhere : (access : Access) (fault : Fault) → seen.answer access ≡ Probe.Fault fault → (code : ℕ) → access_place p f.directory access ≡ Refused code → ⊥
         somewhere access fault answer code refused =
-            subst (λ (place : Located). ChecksAlike (Probe.Fault fault) place) refused (subst (λ (a : Probe). ChecksAlike a (place_of p f.directory access)) answer (checks access))
+            subst (λ (place : Located). ChecksAlike (Probe.Fault fault) place) refused (subst (λ (a : Probe). ChecksAlike a (access_place p f.directory access)) answer (checks access))
 
         shut-out : (access : Access) (fault : Fault) → access_of_plan (plan_at plain) ≡ Some access → seen.answer access ≡ Probe.Fault fault → IsShutOut p f plain access
         shut-out access fault is answer =

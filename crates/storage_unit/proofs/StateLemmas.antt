@@ -1,6 +1,6 @@
 -- What the calls of a unit leave of its pool and its table.
-use Rattle.storage_unit.proofs.Common.{◌≡◌, ℕ, ◌+◌, ◌<◌, ◌≤◌, Bool, false, List, [], ◌∷◌, length, replicate, All, refl, sym, ◌∙◌, ap, subst, arith, get_or, Option, Some, None, nat_lt, if◌then◌else◌, slice_set, fold, is_some, option_map, option_and_then, option_map_or, cases_eq, eq-eqb, length-set, set_past, get_or-set_same, get_or-set_other, get_or-replicate, length-replicate, get_or_past, same_lists, All-nil, Pair, get_or-map-range_with_len, Layout, page_count, IsLegal, IsOfPage, difference, passing, of_page_where, has, Key, Placed, without_frame, look_up, Pool, IsSeen, private_frames, frame_count, frame_at, page_at, gone, page_out, with_room, emptied, laid, line_laid, gone-from, gone-absent, gone-frame, gone-stays, seen-gone, Stays, key_of_page, AreOfPages, held_private, held_in, keys_with, keys_without, pages_begun, Unit, nat_tests}
-use Rattle.page_table.specs.Buffer.{IsOfTable, page_of}
+use Rattle.storage_unit.proofs.Common.{◌≡◌, ℕ, ◌+◌, ◌<◌, ◌≤◌, Bool, false, List, [], ◌∷◌, length, replicate, All, refl, sym, ◌∙◌, ap, subst, arith, get_or, Option, Some, None, nat_lt, if◌then◌else◌, slice_set, fold, is_some, option_map, option_and_then, option_map_or, cases_eq, eq-eqb, length-set, set_past, get_or-set_same, get_or-set_other, get_or-replicate, length-replicate, get_or_past, same_lists, All-nil, Pair, get_or-map-range_with_len, Layout, page_count, AreSegmentsLegal, IsOfPage, difference, passing, of_page_where, has, Key, Placed, without_frame, look_up, Pool, IsSeen, private_frames, frame_count, frame_at, page_at, gone, page_out, with_room, pool_emptied, kept_laid, line_laid, gone-from, gone-absent, gone-frame, gone-stays, seen-gone, Stays, key_of_page, AreOfPages, held_private, held_in, keys_with, keys_without, pages_begun, Unit, nat_tests}
+use Rattle.page_table.specs.Buffer.{IsOfTable, pair_page}
 use Rattle.storage_unit.proofs.LeaveLemmas.{emptied-frame}
 use Rattle.storage_unit.proofs.HeldLemmas.{above, below, keys-long, held-store, keys-store}
 
@@ -9,7 +9,7 @@ fold-bytes : (page frame : ℕ) (lines : List ℕ) (pool : Pool) → fold (line_
 fold-bytes page frame [] pool = refl
 fold-bytes page frame (line ∷ lines) pool = fold-bytes page frame lines (line_laid page frame pool line)
 
-pub laid-bytes : (pool : Pool) (page : ℕ) → laid pool page ≡ record pool { bytes = (laid pool page).bytes }
+pub laid-bytes : (pool : Pool) (page : ℕ) → kept_laid pool page ≡ record pool { bytes = (kept_laid pool page).bytes }
 laid-bytes pool page = grind (arith, nat_tests, fold-bytes)
 
 -- marks of which one page's change to other lines of it
@@ -24,7 +24,7 @@ fold-stays : (pages : List ℕ) (pool : Pool) → Stays pool (fold gone pool pag
 fold-stays [] pool = record { page = refl; frames = refl; bytes = refl; marked = refl; frame_of = refl }
 fold-stays (page ∷ pages) pool = grind (arith, nat_tests, fold-stays pages (gone pool page), gone-stays)
 
-pub emptied-stays : (pool : Pool) → Stays pool (emptied pool)
+pub emptied-stays : (pool : Pool) → Stays pool (pool_emptied pool)
 emptied-stays pool = fold-stays pool.resident pool
 
 pub fold-seen : (pages : List ℕ) (pool : Pool) → IsSeen pool → IsSeen (fold gone pool pages)
@@ -32,10 +32,10 @@ fold-seen [] pool seen = seen
 fold-seen (page ∷ pages) pool seen = fold-seen pages (gone pool page) (seen-gone pool page seen)
 
 -- no frame has a page then
-pub emptied-page : (pool : Pool) (frame : ℕ) → IsSeen pool → page_at (emptied pool) frame ≡ None
-emptied-page pool frame seen = by_page (page_at (emptied pool) frame) refl
+pub emptied-page : (pool : Pool) (frame : ℕ) → IsSeen pool → page_at (pool_emptied pool) frame ≡ None
+emptied-page pool frame seen = by_page (page_at (pool_emptied pool) frame) refl
   where
-    by_page : (o : Option ℕ) → page_at (emptied pool) frame ≡ o → o ≡ None
+    by_page : (o : Option ℕ) → page_at (pool_emptied pool) frame ≡ o → o ≡ None
     by_page None is = refl
     by_page (Some page) is =
         absurd (let clash : None ≡ Some frame = sym (emptied-frame pool page seen) ∙ (fold-seen pool.resident pool seen).back page frame is in cc)
@@ -59,7 +59,7 @@ pub fold-long : (pool : Pool) (list : List ℕ) (from : List (Option Key)) → l
 fold-long pool [] from = refl
 fold-long pool (page ∷ list) from = grind (arith, nat_tests, fold-long pool list (keys_without pool from page), length-set)
 
-module _ (d : Layout) (legal : IsLegal d.segments) (pool : Pool) (seen : IsSeen pool) (size : pool.page ≡ d.page) (pages : length pool.frame_of ≡ page_count d) (t : ℕ → ℕ) where
+module _ (d : Layout) (legal : AreSegmentsLegal d.segments) (pool : Pool) (seen : IsSeen pool) (size : pool.page ≡ d.page) (pages : length pool.frame_of ≡ page_count d) (t : ℕ → ℕ) where
   abbrev keys : List (Option Key)
   keys = keys_with d t pool.frames pool.page_in
 
@@ -93,21 +93,21 @@ module _ (d : Layout) (legal : IsLegal d.segments) (pool : Pool) (seen : IsSeen 
       let rest = fold-key list (keys_without pool from page) frame e (omega (arith, below, fold-long pool (page ∷ []) from)) in
       grind (arith, nat_tests, rest, cases_eq, get_or-set_same, get_or-set_other, eq-eqb, seen.there page, seen.back page)
 
-  pub keys-emptied : fold (keys_without pool) (keys_with d t pool.frames pool.page_in) pool.resident ≡ keys_with d t (emptied pool).frames (emptied pool).page_in
+  pub keys-emptied : fold (keys_without pool) (keys_with d t pool.frames pool.page_in) pool.resident ≡ keys_with d t (pool_emptied pool).frames (pool_emptied pool).page_in
   keys-emptied =
-      same_lists (fold (keys_without pool) keys pool.resident) (keys_with d t (emptied pool).frames (emptied pool).page_in)
-      (fold-long pool pool.resident keys ∙ keys-long d t pool.frames pool.page_in ∙ ap (λ n. private_frames d.page + n) (sym (emptied-stays pool).frames) ∙ sym (keys-long d t (emptied pool).frames (emptied pool).page_in))
+      same_lists (fold (keys_without pool) keys pool.resident) (keys_with d t (pool_emptied pool).frames (pool_emptied pool).page_in)
+      (fold-long pool pool.resident keys ∙ keys-long d t pool.frames pool.page_in ∙ ap (λ n. private_frames d.page + n) (sym (emptied-stays pool).frames) ∙ sym (keys-long d t (pool_emptied pool).frames (pool_emptied pool).page_in))
       (λ k e less. element k e (omega (arith, less, fold-long pool pool.resident keys, keys-long d t pool.frames pool.page_in)))
     where
       there : (k : ℕ) (e : Option Key) → k < private_frames d.page + pool.frames → (frames : ℕ) → frames ≡ pool.frames → (in_page : List (Option ℕ)) → get_or (keys_with d t frames in_page) k e ≡ held_in d t in_page k
       there k e less frames is in_page = get_or-map-range_with_len (held_in d t in_page) 0 (private_frames d.page + frames) k k e (omega (arith, less, is)) (omega arith)
 
-      element : (k : ℕ) (e : Option Key) → k < private_frames d.page + pool.frames → get_or (fold (keys_without pool) keys pool.resident) k e ≡ get_or (keys_with d t (emptied pool).frames (emptied pool).page_in) k e
+      element : (k : ℕ) (e : Option Key) → k < private_frames d.page + pool.frames → get_or (fold (keys_without pool) keys pool.resident) k e ≡ get_or (keys_with d t (pool_emptied pool).frames (pool_emptied pool).page_in) k e
       element k e less =
           fold-key pool.resident keys k e (omega (arith, less, keys-long d t pool.frames pool.page_in))
           ∙ by_page (page_at pool k) refl
           ∙ ap (λ (o : Option ℕ). if nat_lt k (private_frames d.page) then held_private d.page t k else option_map (key_of_page d) o) (sym (emptied-page pool k seen))
-          ∙ sym (there k e less (emptied pool).frames (emptied-stays pool).frames (emptied pool).page_in)
+          ∙ sym (there k e less (pool_emptied pool).frames (emptied-stays pool).frames (pool_emptied pool).page_in)
         where
           by_page : (o : Option ℕ) → page_at pool k ≡ o
               → (if option_map_or (has pool.resident) o false then None else get_or keys k e) ≡ (if nat_lt k (private_frames d.page) then held_private d.page t k else option_map (key_of_page d) None)
@@ -127,9 +127,9 @@ frames-held unit =
 
 pub none-of_table : (keys : List (Option Key)) → IsOfTable (replicate 16 []) keys
 none-of_table keys = λ k d below.
-    subst (λ (pairs : List Pair). All (λ pair. look_up keys (page_of pair) ≡ Some pair.frame) pairs)
+    subst (λ (pairs : List Pair). All (λ pair. look_up keys (pair_page pair) ≡ Some pair.frame) pairs)
     (sym (get_or-replicate 16 k [] d (omega (arith, below, length-replicate 16 (let none : List Pair = [] in none)))))
-    (All-nil (λ pair. look_up keys (page_of pair) ≡ Some pair.frame))
+    (All-nil (λ pair. look_up keys (pair_page pair) ≡ Some pair.frame))
 
 no-lines : IsOfPage []
 unfolding passing

@@ -1,5 +1,5 @@
 -- What a store leaves, as it is written page by page, and what is shown after it.
-use Rattle.storage_unit.proofs.Common.{◌≡◌, ℕ, ◌+◌, ◌-◌, ◌*◌, ◌/◌, ◌%◌, ◌<◌, ◌≤◌, List, ◌++◌, length, refl, sym, ◌∙◌, ap, subst, arith, Option, Some, None, get_or, inl, inr, ◌||◌, slice_set, option_map_or, cases_Bool, nat_tests, same_lists, length-append, get_or_append_left, get_or-append_right, get_or-map-range_with_len, length-map-range_with_len, same_number_lists, page_bytes, start_of, page_of, union, where-alike, is_in_where-below, of_page_where, has, Located, Private, Shared, Refused, lines_at, Virtual, key_of, look_up, Pool, private_frames, frame_count, page_at, marks_at, marked_in, with_marks, with_bytes, lines_of_part, page_part, Reach, is_private, offset_of, place_of, on, AreOfPages, seat_pages, table_of, put_in_store, put_at, IsSound, Lies, some-within, overlaid-joined}
+use Rattle.storage_unit.proofs.Common.{◌≡◌, ℕ, ◌+◌, ◌-◌, ◌*◌, ◌/◌, ◌%◌, ◌<◌, ◌≤◌, List, ◌++◌, length, refl, sym, ◌∙◌, ap, subst, arith, Option, Some, None, get_or, inl, inr, ◌||◌, slice_set, option_map_or, cases_Bool, nat_tests, same_lists, length-append, get_or_append_left, get_or-append_right, get_or-map-range_with_len, length-map-range_with_len, same_number_lists, page_bytes, start_of, page_of, union, where-alike, is_in_where-below, of_page_where, has, Located, Private, Shared, Refused, lines_at, Virtual, key_of, look_up, Pool, private_frames, frame_count, page_at, marks_at, marked_in, with_marks, with_bytes, lines_of_part, page_part, Reach, is_private, offset_of, byte_place, on, AreOfPages, seat_pages, table_of, put_in_store, put_at, IsReachSound, Lies, some-within, overlaid-joined}
 use Rattle.storage_unit.proofs.SizeLemmas.{private-whole, seat-bytes, seat-frame, seat-page, line-order}
 use Rattle.storage_unit.proofs.StateLemmas.{marks-set}
 use Rattle.storage_unit.proofs.PlaceLemmas.{private-is, shared-is, finds-own, finds-shared, place-byte}
@@ -9,23 +9,23 @@ one-of : (a b : ℕ) → Some a ≡ Some b → a ≡ b
 one-of a b same = cc
 
 -- the frames have room for a page
-pub frame-room : (state : Reach) → IsSound state → (frame : ℕ) → frame < frame_count state.directory.page state.pool.frames → frame * page_bytes state.directory.page + page_bytes state.directory.page ≤ length state.pool.bytes
+pub frame-room : (state : Reach) → IsReachSound state → (frame : ℕ) → frame < frame_count state.directory.page state.pool.frames → frame * page_bytes state.directory.page + page_bytes state.directory.page ≤ length state.pool.bytes
 frame-room state sound frame below =
     omega (arith, page_part frame (frame_count state.directory.page state.pool.frames) (page_bytes state.directory.page) below, sound.fits.seen.bytes ∙ ap (λ s. frame_count s state.pool.frames * page_bytes s) sound.fits.size)
 
 -- private storage is in the frames
-pub all-private : (state : Reach) → IsSound state → 262144 ≤ length state.pool.bytes
+pub all-private : (state : Reach) → IsReachSound state → 262144 ≤ length state.pool.bytes
 all-private state sound =
     omega (arith, private-whole state.directory.page, sound.fits.seen.bytes ∙ ap (λ s. frame_count s state.pool.frames * page_bytes s) sound.fits.size)
 
-pub frame-below : (state : Reach) → IsSound state → (page frame : ℕ) → page_at state.pool frame ≡ Some page → (private_frames state.directory.page ≤ frame) × (frame < frame_count state.directory.page state.pool.frames)
+pub frame-below : (state : Reach) → IsReachSound state → (page frame : ℕ) → page_at state.pool frame ≡ Some page → (private_frames state.directory.page ≤ frame) × (frame < frame_count state.directory.page state.pool.frames)
 frame-below state sound page frame is = grind (arith, nat_tests)
 
 -- private frames have no page of the store
-pub private-none : (state : Reach) → IsSound state → (frame : ℕ) → frame < private_frames state.directory.page → page_at state.pool frame ≡ None
+pub private-none : (state : Reach) → IsReachSound state → (frame : ℕ) → frame < private_frames state.directory.page → page_at state.pool frame ≡ None
 private-none state sound frame low = grind (arith, nat_tests)
 
-pub low-frame : (state : Reach) → IsSound state → (spot : ℕ) → spot < 262144 → page_at state.pool (spot / page_bytes state.directory.page) ≡ None
+pub low-frame : (state : Reach) → IsReachSound state → (spot : ℕ) → spot < 262144 → page_at state.pool (spot / page_bytes state.directory.page) ≡ None
 low-frame state sound spot low = grind (arith, nat_tests)
 
 -- marks of the page in a frame
@@ -33,13 +33,13 @@ pub marked-of_pages : (pool : Pool) (frame : ℕ) (lines : List ℕ) → AreOfPa
 marked-of_pages pool frame lines all = grind (arith, nat_tests, marks-set, of_page_where)
 
 -- bytes that are written over those of the frame that the table found
-module _ (state : Reach) (sound : IsSound state) (at : Virtual) (bytes : List ℕ) (some : 0 < length bytes) (lies : Lies state at (length bytes)) (within : at.byte + length bytes ≤ page_bytes state.directory.page)
+module _ (state : Reach) (sound : IsReachSound state) (at : Virtual) (bytes : List ℕ) (some : 0 < length bytes) (lies : Lies state at (length bytes)) (within : at.byte + length bytes ≤ page_bytes state.directory.page)
     (frame : ℕ) (found : look_up (table_of state).keys (key_of at) ≡ Some frame) where
   abbrev written : Pool
   written = with_bytes (marked_in state.pool frame (lines_of_part state.pool.page at.byte (length bytes))) (frame * page_bytes state.pool.page + at.byte) bytes
 
   pub put-found : (let now : Reach = record state { pool = with_bytes (marked_in state.pool frame (lines_of_part state.pool.page at.byte (length bytes))) (frame * page_bytes state.pool.page + at.byte) bytes } in now)
-      ≡ put_at state (place_of state.directory at) bytes
+      ≡ put_at state (byte_place state.directory at) bytes
   put-found = elim (cases_Bool (is_private at.segment)) [
     | inl own ↦
         let (seat, runner, few, segment, begun, fits) = lies.private own in
@@ -75,7 +75,7 @@ module _ (state : Reach) (sound : IsSound state) (at : Virtual) (bytes : List �
       page-there page f is = some-within state.pool.frame_of page f (sound.fits.seen.back page f is)
 
 -- bytes behind others, put after them
-module _ (state : Reach) (sound : IsSound state) (place : Located) (first second : List ℕ) (some : 0 < length first) (more : 0 < length second) where
+module _ (state : Reach) (sound : IsReachSound state) (place : Located) (first second : List ℕ) (some : 0 < length first) (more : 0 < length second) where
   spots-twice : (p : ℕ) → (put_in_store state.directory (put_in_store state.directory state.pool p first) (p + length first) second).bytes ≡ (put_in_store state.directory state.pool p (first ++ second)).bytes
   spots-twice p = grind (arith, nat_tests, same_number_lists, length-map-range_with_len, get_or-map-range_with_len, put-outside, put-inside, get_or_append_left, length-append, get_or-append_right)
 

@@ -1,11 +1,11 @@
 -- An undo gives its lines their committed bytes.
-use Rattle.storage_unit.proofs.Common.{◌≡◌, ℕ, ◌<◌, Bool, true, false, List, sym, ◌∙◌, ap, arith, has, Layout, byte_count, line_of, page_of, Pool, is_marked, byte_over, IsClean, Fits, is_among, UndoForgets, ◌==◌, ◌%◌, ◌&&◌, not, if◌then◌else◌, slice_index, length}
-use Rattle.frame_pool.specs.Pool.{settled, undone}
+use Rattle.storage_unit.proofs.Common.{◌≡◌, ℕ, ◌<◌, Bool, true, false, List, sym, ◌∙◌, ap, arith, has, Layout, byte_count, line_of, page_of, Pool, is_marked, byte_over, IsClean, PoolFits, is_among, UndoForgets, ◌==◌, ◌%◌, ◌&&◌, not, if◌then◌else◌, slice_index, length}
+use Rattle.frame_pool.specs.Pool.{settled, page_undone}
 use Rattle.storage_unit.proofs.SizeLemmas.{page-of-line}
 use Rattle.storage_unit.proofs.ByteLemmas.{byte-of-all, gone-over}
 use Rattle.storage_unit.proofs.LeaveLemmas.{seen-settled, settled-over, settled-line, gone-marked, clean-of, clean-shows}
 
-module _ (d : Layout) (pool : Pool) (committed : List ℕ) (page : ℕ) (lines : List ℕ) (fits : Fits d pool) (clean : IsClean d pool committed) (room : page < length pool.frame_of) where
+module _ (d : Layout) (pool : Pool) (committed : List ℕ) (page : ℕ) (lines : List ℕ) (fits : PoolFits d pool) (clean : IsClean d pool committed) (room : page < length pool.frame_of) where
   abbrev after : Pool
   after = settled pool page lines
 
@@ -22,7 +22,7 @@ module _ (d : Layout) (pool : Pool) (committed : List ℕ) (page : ℕ) (lines :
   of-page place apart = ap (λ (n : ℕ). page == n && has lines (line_of d place % 16)) (page-of-line d.page place) ∙ ap (λ (b : Bool). b && has lines (line_of d place % 16)) apart
 
   shows : (place : ℕ) → place < byte_count d
-      → byte_over d (undone pool page lines) committed place ≡ (if is_among page lines (line_of d place) then slice_index committed place else byte_over d pool committed place)
+      → byte_over d (page_undone pool page lines) committed place ≡ (if is_among page lines (line_of d place) then slice_index committed place else byte_over d pool committed place)
   shows place below =
       let here = gone-over d after committed page place (seen-settled d pool committed page lines fits.seen room) fits.size in
       let marks = marked-is place in
@@ -31,8 +31,8 @@ module _ (d : Layout) (pool : Pool) (committed : List ℕ) (page : ℕ) (lines :
       let shown = clean-shows d pool committed place clean below in
       grind (arith, here, marks, stays, apart, shown)
 
-  clean-after : IsClean d (undone pool page lines) committed
-  clean-after = clean-of d (undone pool page lines) committed
+  clean-after : IsClean d (page_undone pool page lines) committed
+  clean-after = clean-of d (page_undone pool page lines) committed
       (λ place below unmarked.
       let is = shows place below in
       let marks = marked-is place in
@@ -44,6 +44,6 @@ pub undo-forgets : UndoForgets
 undo-forgets = λ d pool committed page lines fits long clean within.
     let room : page < length pool.frame_of = omega (arith, within, fits.pages) in (
       λ place below.
-          cc (byte-of-all d (undone pool page lines) committed place below, shows d pool committed page lines fits clean room place below, byte-of-all d pool committed place below),
+          cc (byte-of-all d (page_undone pool page lines) committed place below, shows d pool committed page lines fits clean room place below, byte-of-all d pool committed place below),
       clean-after d pool committed page lines fits clean room,
     )

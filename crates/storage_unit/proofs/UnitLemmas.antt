@@ -1,13 +1,13 @@
 -- What is known of every unit, for those that keep one.
-use Rattle.storage_unit.proofs.Common.{◌≡◌, ℕ, zero, suc, ◌<◌, true, false, refl, sym, ◌∙◌, subst, arith, Some, None, slice_index_or, nat_tests, Layout, IsLegal, SegmentRegister, private_register, Program, registers_of_program, register-window, named-low, Unit, private_segment, is_private, IsUnder, AreReached, IsSound, reach_of}
+use Rattle.storage_unit.proofs.Common.{◌≡◌, ℕ, zero, suc, ◌<◌, true, false, refl, sym, ◌∙◌, subst, arith, Some, None, slice_index_or, nat_tests, Layout, AreSegmentsLegal, SegmentRegister, private_register, Program, registers_of_program, register-window, named-low, Unit, private_segment, is_private, IsUnder, AreReached, IsReachSound, reach_of}
 
 -- its state is sound
-pub unit-sound : (unit : Unit) → IsSound (reach_of unit)
+pub unit-sound : (unit : Unit) → IsReachSound (reach_of unit)
 unit-sound unit = grind (arith, nat_tests)
 
 -- the registers of a program may be a seat's
 pub program-reached :
-    (directory : Layout) (program : Program) (seat : ℕ) → IsLegal directory.segments
+    (directory : Layout) (program : Program) (seat : ℕ) → AreSegmentsLegal directory.segments
     → AreReached directory seat (registers_of_program program directory (private_segment seat))
 program-reached directory program seat legal = record { page = refl; first = refl; under = under }
   where

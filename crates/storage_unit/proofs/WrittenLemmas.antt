@@ -1,5 +1,5 @@
 -- A unit in which a part of a frame was written.
-use Rattle.storage_unit.proofs.Common.{◌≡◌, ℕ, ◌+◌, ◌-◌, ◌*◌, ◌<◌, ◌≤◌, List, length, sym, ◌∙◌, ap, subst, arith, Some, page_bytes, Virtual, key_of, look_up, lines_of_part, with_frame_part, marked_in, Reach, place_of, put_at, is_private, offset_of, true, false, table_of, Lies, Unit, reach_of, ReadyRows, known, AreReady, after_store, AreClear, AreUsed}
+use Rattle.storage_unit.proofs.Common.{◌≡◌, ℕ, ◌+◌, ◌-◌, ◌*◌, ◌<◌, ◌≤◌, List, length, sym, ◌∙◌, ap, subst, arith, Some, page_bytes, Virtual, key_of, look_up, lines_of_part, with_frame_part, marked_in, Reach, byte_place, put_at, is_private, offset_of, true, false, table_of, Lies, Unit, reach_of, ReadyRows, known, AreReady, after_store, AreClear, AreUsed}
 use Rattle.storage_unit.proofs.ClearLemmas.{clear-put}
 use Rattle.storage_unit.proofs.PartLemmas.{pool-after}
 use Rattle.storage_unit.proofs.ReadyLemmas.{ready-put}
@@ -10,7 +10,7 @@ module _ (unit : Unit) (at : Virtual) (frame byte n : ℕ) (is : look_up (table_
     (some : 0 < n) (lies : Lies (reach_of unit) at n) (part : List ℕ) (long : length part ≡ n) where
   -- its state
   pub stored-part : (let now : Reach = record (reach_of unit) { pool = with_frame_part (marked_in unit.pool frame (lines_of_part unit.pool.page byte n)) (frame * page_bytes unit.pool.page + byte) part } in now)
-      ≡ put_at (reach_of unit) (place_of unit.directory at) part
+      ≡ put_at (reach_of unit) (byte_place unit.directory at) part
   stored-part =
       cc (
         pool-after unit at frame byte n is same within (lines_of_part unit.pool.page byte n) part long,

@@ -3,7 +3,7 @@ use Rattle.std.specs.Prelude.{◌≡◌, ℕ, ◌+◌, ◌/◌, ◌%◌, ◌<◌
 use Rattle.storage_unit.specs.Below.{frame_at, IsOfPage, Key, key_of, key_to, Layout, length_of, look_up, option_map_or, overlaid, PageSize, Placed, Pool, private_frames, private_register, range_with_len, Registers, Virtual}
 use Rattle.lines.specs.declared.line_geometry.PageSize.TheVariants.{Two, Four}
 use Rattle.page_table.specs.declared.segment_regs.SegmentRegister.{SegmentRegister}
-use Rattle.storage_unit.specs.declared.model.Reach.{Reach}
+use Rattle.storage_unit.specs.declared.unit_model.Reach.{Reach}
 use Rattle.storage_unit.specs.Places.{private_segment, is_private, key_of_page}
 
 -- the private pages of a seat: 16,384 bytes in all

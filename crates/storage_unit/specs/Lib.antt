@@ -12,5 +12,5 @@ pub mod View
 pub mod Served
 pub mod Rows
 pub mod Accesses
-pub mod Laws
+pub mod PoolLaws
 pub mod Incoming

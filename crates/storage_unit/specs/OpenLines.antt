@@ -4,7 +4,7 @@ use Rattle.storage_unit.specs.Below.{Access, entry_at, grant_of, has, key_of, La
 use Rattle.page_table.specs.declared.open_lines.OpenLine.{OpenLine}
 use Rattle.page_table.specs.declared.open_lines.OpenLines.{OpenLines}
 use Rattle.page_table.specs.KnownLines.{known}
-use Rattle.storage_unit.specs.declared.model.Reach.{Reach}
+use Rattle.storage_unit.specs.declared.unit_model.Reach.{Reach}
 use Rattle.storage_unit.specs.Bytes.{is_marked}
 use Rattle.storage_unit.specs.Held.{frame_found}
 use Rattle.storage_unit.specs.Places.{flat_place, is_private}
@@ -23,7 +23,7 @@ is_marked_at directory marked at =
 
 -- the 128 addresses of a block are located from the line's first byte on, to be stored where the line is; its frame has their page, and that
 -- byte at its spot; and where they are of the store, the entry lets, and they are marked if they are to be stored
-pub record IsOpened (directory : Layout) (table : Placed) (registers : Registers) (marked : List (List ℕ)) (runner block : ℕ) (line : OpenLine) : Type 0 where
+pub record IsLineOpened (directory : Layout) (table : Placed) (registers : Registers) (marked : List (List ℕ)) (runner block : ℕ) (line : OpenLine) : Type 0 where
   pub located : located_by registers (block * 128) 128 line.write ≡ Ok line.first
   pub frame : look_up table.keys (key_of line.first) ≡ Some line.frame
   pub spot : line.spot ≡ line.frame * page_bytes directory.page + line.first.byte
@@ -37,7 +37,7 @@ IsMarkedAt state at = is_private at.segment ≡ false → is_marked_at state.dir
 -- each line that is known is so
 abbrev pub AreOpened : OpenLines → Layout → Placed → Registers → List (List ℕ) → (runner : ℕ) → Type 0
 AreOpened lines directory table registers marked runner =
-    (block : ℕ) (line : OpenLine) → known lines block ≡ Some line → IsOpened directory table registers marked runner block line
+    (block : ℕ) (line : OpenLine) → known lines block ≡ Some line → IsLineOpened directory table registers marked runner block line
 
 -- an access may be made: it begins at this byte, and lies in one page, which this frame has
 pub record IsOpenAt (state : Reach) (wants : Access) (at : Virtual) (found : ℕ) : Type 0 where

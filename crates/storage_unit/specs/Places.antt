@@ -19,12 +19,12 @@ abbrev pub flat_place : Layout → Virtual → ℕ
 flat_place directory at = start_of directory at.segment + offset_of directory.page at
 
 -- where a byte lies: at an offset of private storage, or at a place of the store
-abbrev pub place_of : Layout → Virtual → Located
-place_of directory at = if is_private at.segment then Private (offset_of directory.page at) else Shared (flat_place directory at)
+abbrev pub byte_place : Layout → Virtual → Located
+byte_place directory at = if is_private at.segment then Private (offset_of directory.page at) else Shared (flat_place directory at)
 
 -- where an access lies, or that it is refused
 abbrev pub place_at : Layout → Result Virtual Check → Located
-place_at directory (Ok at) = place_of directory at
+place_at directory (Ok at) = byte_place directory at
 place_at directory (Err check) = Refused check.0
 
 -- so many bytes on

@@ -47,22 +47,22 @@ status_code =
     (λ s. (s.lt, (s.eq, (s.gt, (s.c0, s.ov))))) (λ p. record { lt = p.0; eq = p.1.0; gt = p.1.1.0; c0 = p.1.1.1.0; ov = p.1.1.1.1 }) (λ s. refl)
 
 -- a plan, by what it does or by its code as it fails
-abbrev Parts : Type 0
-Parts = (List ℕ × (Cs × (Act × (ℕ × Option (ℕ × ℕ))))) ⊎ ℕ
+abbrev PlanParts : Type 0
+PlanParts = (List ℕ × (Cs × (Act × (ℕ × Option (ℕ × ℕ))))) ⊎ ℕ
 
-abbrev parts : Plan → Parts
+abbrev parts : Plan → PlanParts
 parts (Does registers status act next link) = inl (registers, (status, (act, (next, link))))
 parts (Fails code) = inr code
 
-abbrev whole : Parts → Plan
-whole (inl (registers, (status, (act, (next, link))))) = Does registers status act next link
-whole (inr code) = Fails code
+abbrev whole_plan : PlanParts → Plan
+whole_plan (inl (registers, (status, (act, (next, link))))) = Does registers status act next link
+whole_plan (inr code) = Fails code
 
-whole-parts : (plan : Plan) → whole (parts plan) ≡ plan
+whole-parts : (plan : Plan) → whole_plan (parts plan) ≡ plan
 whole-parts (Does registers status act next link) = refl
 whole-parts (Fails code) = refl
 
 pub plan_set : IsSet Plan
 plan_set =
-    Coded-set (code_by Parts (coded⊎ (coded× (coded_list coded_ℕ) (coded× status_code (coded× act_code (coded× coded_ℕ (coded_option (coded× coded_ℕ coded_ℕ)))))) coded_ℕ)
-    parts whole whole-parts)
+    Coded-set (code_by PlanParts (coded⊎ (coded× (coded_list coded_ℕ) (coded× status_code (coded× act_code (coded× coded_ℕ (coded_option (coded× coded_ℕ coded_ℕ)))))) coded_ℕ)
+    parts whole_plan whole-parts)

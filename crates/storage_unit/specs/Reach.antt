@@ -2,8 +2,8 @@
 use Rattle.std.specs.Prelude.{ℕ, ◌+◌, ◌-◌, ◌*◌, ◌/◌, ◌%◌, ◌==◌, ◌&&◌, nat_le, nat_lt, not, if◌then◌else◌, Bool, true, false, List, map, length, slice_index, slice_index_or, is_some, Result}
 use Rattle.storage_unit.specs.Below.{Access, answer_in, frame_at, grant_of, has, Layout, lets, line_of, lines_at, lines_where, Located, located_by, marks_at, option_map_or, overlaid, page_at, page_bytes, page_of_line, Pool, Private, Probe, range_with_len, Refused, Shared, union, unowned, Virtual}
 use Rattle.page_table.specs.declared.segment_regs.Check.{Check}
-use Rattle.storage_unit.specs.declared.model.Reach.{Reach}
-use Rattle.storage_unit.specs.Places.{on, place_of, place_at}
+use Rattle.storage_unit.specs.declared.unit_model.Reach.{Reach}
+use Rattle.storage_unit.specs.Places.{on, byte_place, place_at}
 use Rattle.storage_unit.specs.Bytes.{byte_shown}
 
 -- a state with what becomes of its pool
@@ -11,8 +11,8 @@ abbrev pub over_pool : Reach → (Pool → Pool) → Reach
 over_pool state becomes = record state { pool = becomes state.pool }
 
 -- the seat that is selected
-abbrev pub seat_of : Reach → ℕ
-seat_of state = state.runner - 1
+abbrev pub seat_selected : Reach → ℕ
+seat_selected state = state.runner - 1
 
 -- whether the page of a line is in a frame
 abbrev pub is_resident : Reach → ℕ → Bool
@@ -28,7 +28,7 @@ refuses_place state place store = is_refused state (line_of state.directory plac
 
 -- the byte at a place: of private storage that of the selected seat, of the store that of its frame
 abbrev pub byte_of : Reach → Located → ℕ
-byte_of state (Private at) = slice_index state.pool.bytes (seat_of state * 16384 + at)
+byte_of state (Private at) = slice_index state.pool.bytes (seat_selected state * 16384 + at)
 byte_of state (Shared at) = byte_shown state.directory state.pool at 0
 byte_of state (Refused code) = 0
 
@@ -48,14 +48,14 @@ is_kept_from state _ store = false
 
 -- the same of a byte
 abbrev pub is_in_frame : Reach → Virtual → Bool
-is_in_frame state at = is_there state (place_of state.directory at)
+is_in_frame state at = is_there state (byte_place state.directory at)
 
-abbrev pub refuses : Reach → Virtual → Bool → Bool
-refuses state at store = is_kept_from state (place_of state.directory at) store
+abbrev pub refuses_byte : Reach → Virtual → Bool → Bool
+refuses_byte state at store = is_kept_from state (byte_place state.directory at) store
 
 -- and of the byte so many past one
 abbrev pub refuses_past : Reach → Virtual → (past : ℕ) → Bool → Bool
-refuses_past state first past store = is_kept_from state (on (place_of state.directory first) past) store
+refuses_past state first past store = is_kept_from state (on (byte_place state.directory first) past) store
 
 -- the byte at which an access begins, or that it is refused
 abbrev pub begins_at : Reach → Access → Result Virtual Check
@@ -63,7 +63,7 @@ begins_at state wants = located_by state.registers wants.address wants.bytes wan
 
 -- what an access is answered
 abbrev pub answer_to : Reach → Access → Probe
-answer_to = answer_in (λ state. state.registers) is_in_frame refuses
+answer_to = answer_in (λ state. state.registers) is_in_frame refuses_byte
 
 -- the byte of a place, with these bytes over those from a place on
 abbrev pub put_byte : (bytes : List ℕ) → (from place old : ℕ) → ℕ
@@ -92,13 +92,13 @@ put_in_store directory pool from bytes =
 
 -- bytes over those from a place on
 abbrev pub put_at : Reach → Located → List ℕ → Reach
-put_at state (Private at) bytes = record state { pool = record state.pool { bytes = overlaid state.pool.bytes (seat_of state * 16384 + at) bytes } }
+put_at state (Private at) bytes = record state { pool = record state.pool { bytes = overlaid state.pool.bytes (seat_selected state * 16384 + at) bytes } }
 put_at state (Shared at) bytes = record state { pool = put_in_store state.directory state.pool at bytes }
 put_at state (Refused code) bytes = state
 
 -- bytes over those from a byte on
 abbrev pub put_from : Reach → Virtual → List ℕ → Reach
-put_from state first bytes = put_at state (place_of state.directory first) bytes
+put_from state first bytes = put_at state (byte_place state.directory first) bytes
 
 -- bytes over those from an effective address on
 abbrev pub stored : Reach → ℕ → List ℕ → Reach

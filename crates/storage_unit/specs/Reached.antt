@@ -1,18 +1,18 @@
 -- What holds of the state of every unit, and the bytes that the seat that is selected may reach.
 use Rattle.std.specs.Prelude.{◌≡◌, ℕ, ◌+◌, ◌≤◌, ◌<◌, ◌^◌, not, Bool, true, false, List, map, length, is_some, slice_index_or, Some, Option, find}
-use Rattle.storage_unit.specs.Below.{byte_count, IsLegal, length_of, Located, page_bytes, page_count, range_with_len, start_of, Virtual}
+use Rattle.storage_unit.specs.Below.{byte_count, AreSegmentsLegal, length_of, Located, page_bytes, page_count, range_with_len, start_of, Virtual}
 use Rattle.storage_unit.specs.Held.{IsSelected, frame_found}
-use Rattle.storage_unit.specs.Laws.{Fits}
-use Rattle.storage_unit.specs.declared.model.Reach.{Reach}
-use Rattle.storage_unit.specs.Places.{private_segment, is_private, offset_of, place_of, on}
+use Rattle.storage_unit.specs.PoolLaws.{PoolFits}
+use Rattle.storage_unit.specs.declared.unit_model.Reach.{Reach}
+use Rattle.storage_unit.specs.Places.{private_segment, is_private, offset_of, byte_place, on}
 use Rattle.storage_unit.specs.Reach.{byte_of, is_there, refuses_past, refuses_place}
 
 -- what holds of every unit: its parts have the sizes of its store, and the seat that is selected may reach what its
 -- registers name
-pub record IsSound (state : Reach) : Type 0 where
+pub record IsReachSound (state : Reach) : Type 0 where
   pub sixteen : length state.begun ≡ 16
-  pub legal : IsLegal state.directory.segments
-  pub fits : Fits state.directory state.pool
+  pub legal : AreSegmentsLegal state.directory.segments
+  pub fits : PoolFits state.directory state.pool
   pub entries : length state.entries ≡ page_count state.directory
   pub selected : IsSelected state.directory state.begun state.runner state.registers
 
@@ -26,7 +26,7 @@ pub record Lies (state : Reach) (at : Virtual) (count : ℕ) : Type 0 where
 
 -- so many bytes from a byte on are in frames
 abbrev pub AreThere : Reach → Virtual → (count : ℕ) → Type 0
-AreThere state first count = (past : ℕ) → past < count → is_there state (on (place_of state.directory first) past) ≡ true
+AreThere state first count = (past : ℕ) → past < count → is_there state (on (byte_place state.directory first) past) ≡ true
 
 -- some bytes from a byte on may be copied, and written over: they lie so, and are in frames
 pub record CanReach (state : Reach) (first : Virtual) (count : ℕ) : Type 0 where
@@ -40,11 +40,11 @@ bytes_shown state first count = map (λ past. byte_of state (on first past)) (ra
 
 -- and from a byte on
 abbrev pub shown_from : Reach → Virtual → (count : ℕ) → List ℕ
-shown_from state first count = bytes_shown state (place_of state.directory first) count
+shown_from state first count = bytes_shown state (byte_place state.directory first) count
 
 -- how many bytes past a byte the first of so many lies whose page is in no frame
 abbrev pub past_absent : Reach → Virtual → (count : ℕ) → Option ℕ
-past_absent state first count = find (λ past. not (is_there state (on (place_of state.directory first) past))) (range_with_len 0 count)
+past_absent state first count = find (λ past. not (is_there state (on (byte_place state.directory first) past))) (range_with_len 0 count)
 
 -- or the first that the entry of its page refuses, and the same of bytes of the store from a place on
 abbrev pub past_kept : Reach → Virtual → (count : ℕ) → (store : Bool) → Option ℕ

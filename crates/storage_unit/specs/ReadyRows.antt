@@ -1,7 +1,7 @@
 -- The rows that a unit knows: each is made ready of the private bytes of who is selected.
 use Rattle.std.specs.Prelude.{◌≡◌, ℕ, ◌+◌, ◌-◌, ◌*◌, ◌≤◌, if◌then◌else◌, List, slice_index, Option, Some}
 use Rattle.byteorder.specs.Endian.{big_number}
-use Rattle.storage_unit.specs.Below.{bytes_from, IsRowOf, known, PageSize, unless_met, Virtual}
+use Rattle.storage_unit.specs.Below.{bytes_from, IsReadyRowOf, known, PageSize, unless_met, Virtual}
 use Rattle.flat_machine.specs.declared.ready.Ready.{Ready}
 use Rattle.ready_rows.specs.declared.rows.ReadyRows.{ReadyRows}
 use Rattle.storage_unit.specs.Places.{is_private, offset_of}
@@ -15,7 +15,7 @@ private_half bytes runner offset = big_number 2 (bytes_from (private_byte bytes 
 
 -- a row is made ready of the halfwords at an address
 abbrev pub IsMadeOf : List ℕ → (runner address : ℕ) → Ready → Type 0
-IsMadeOf bytes runner address row = IsRowOf row (private_half bytes runner address) (private_half bytes runner (address + 2)) address
+IsMadeOf bytes runner address row = IsReadyRowOf row (private_half bytes runner address) (private_half bytes runner (address + 2)) address
 
 -- each row that is known is made ready of the private bytes of who is selected; where nobody is, none is known
 pub record AreReady (rows : ReadyRows) (bytes : List ℕ) (runner : ℕ) : Type 0 where

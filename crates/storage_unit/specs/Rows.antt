@@ -7,10 +7,10 @@ use Rattle.flat_machine.specs.Row.{Check}
 use Rattle.romp_cpu.specs.declared.cpu.Attempt.{Attempt}
 use Rattle.romp_cpu.specs.declared.cpu.Cpu.{Cpu}
 use Rattle.romp_cpu.specs.Segments.{registers_of_program}
-use Rattle.storage_unit.specs.declared.model.Reach.{Reach}
+use Rattle.storage_unit.specs.declared.unit_model.Reach.{Reach}
 use Rattle.storage_unit.specs.declared.unit.Unit.{Unit}
 use Rattle.storage_unit.specs.Places.{private_segment}
-use Rattle.storage_unit.specs.Reach.{seat_of, is_refused, answer_to, byte_at, stored}
+use Rattle.storage_unit.specs.Reach.{seat_selected, is_refused, answer_to, byte_at, stored}
 use Rattle.storage_unit.specs.View.{reach_of}
 use Rattle.storage_unit.specs.Bytes.{bytes_over, private_bytes, is_line_marked, IsClean}
 
@@ -21,7 +21,7 @@ plain_over committed cpu state out =
       regs = cpu.regs;
       cs = cpu.cs;
       iar = cpu.iar;
-      private = private_bytes state.pool (seat_of state);
+      private = private_bytes state.pool (seat_selected state);
       store = bytes_over state.directory state.pool committed;
       out = out;
     }
@@ -29,7 +29,7 @@ plain_over committed cpu state out =
 -- a seat is selected, and the registers are those of a program in it
 pub record HasWindows (state : Reach) (program : Program) : Type 0 where
   pub selected : 1 ≤ state.runner
-  pub registers : state.registers ≡ registers_of_program program state.directory (private_segment (seat_of state))
+  pub registers : state.registers ≡ registers_of_program program state.directory (private_segment (seat_selected state))
 
 -- a line is on a resident page, whose entry permits it
 pub record IsOpenLine (state : Reach) (line : ℕ) (store : Bool) : Type 0 where

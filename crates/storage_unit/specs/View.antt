@@ -1,7 +1,7 @@
 -- What a `Unit` is seen as.
 use Rattle.std.specs.Prelude.{List}
 use Rattle.storage_unit.specs.Below.{Pair}
-use Rattle.storage_unit.specs.declared.model.Reach.{Reach}
+use Rattle.storage_unit.specs.declared.unit_model.Reach.{Reach}
 use Rattle.storage_unit.specs.declared.unit.Unit.{Unit}
 
 abbrev pub reach_of : Unit → Reach

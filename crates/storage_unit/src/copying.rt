@@ -5,10 +5,10 @@ ghost use Rattle.flat_machine.specs.Access.{FitsFrom};
 ghost use Rattle.storage_unit.specs.Reach.{begins_at, put_from};
 ghost use Rattle.storage_unit.specs.Reached.{CanReach, Lies, shown_from};
 ghost use Rattle.storage_unit.specs.Held.{frame_found};
-ghost use Rattle.storage_unit.specs.Accesses.{IsRead, IsReadIf, IsWritten, IsWrittenIf, loaded, saved};
+ghost use Rattle.storage_unit.specs.Accesses.{IsLoaded, IsReadIf, AreStored, IsWrittenIf, loaded, saved};
 ghost use Rattle.storage_unit.specs.OpenLines.{IsOpenFrom};
 
-use super::rows::{drop_rows, use_bytes};
+use super::stored_over::{drop_rows, use_bytes};
 use super::unit::Unit;
 use flat_machine::{fill, gather};
 use page_table::{OpenLine, Virtual};
@@ -202,7 +202,7 @@ impl Unit {
         requires fits { FitsFrom wants.now.bytes to }
         requires located { begins_at (reach_of self.old) wants.now ≡ Ok first }
         requires within { first.byte + wants.now.bytes ≤ page_bytes (reach_of self.old).directory.page }
-        ensures { IsRead self.old self.new wants.now to sign regs.old regs.new result }
+        ensures { IsLoaded self.old self.new wants.now to sign regs.old regs.new result }
     {
         match self.open(wants, first) {
             Ok(frame) => {
@@ -226,7 +226,7 @@ impl Unit {
         requires fits { FitsFrom wants.now.bytes from }
         requires located { begins_at (reach_of self.old) wants.now ≡ Ok first }
         requires within { first.byte + wants.now.bytes ≤ page_bytes (reach_of self.old).directory.page }
-        ensures { IsWritten self.old self.new wants.now from regs.now result }
+        ensures { AreStored self.old self.new wants.now from regs.now result }
     {
         match self.frame_for(first, wants.bytes, wants.store) {
             Ok(frame) => {

@@ -4,16 +4,16 @@
 mod answering;
 mod copying;
 mod incoming;
-pub mod laws;
-mod model;
+mod page_moves;
+pub mod pool_laws;
 mod private;
-mod rows;
-mod serving;
 mod sizes;
 mod storage;
+mod stored_over;
 mod unit;
+mod unit_model;
 
 pub use incoming::Pages;
-pub use model::Reach;
 pub use private::PRIVATE;
 pub use unit::Unit;
+pub use unit_model::Reach;

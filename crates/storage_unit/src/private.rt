@@ -3,9 +3,9 @@ ghost use Rattle.std.specs.Prelude.{◌≡◌, ℕ, List, None, ◌+◌, ◌<◌
 ghost use Rattle.storage_unit.specs.Below.{IsOfTable, key_in, key_to, look_up, Pair};
 ghost use Rattle.storage_unit.specs.Held.{AreReached, first_keys, with_keys};
 
-use super::rows::forget_unless;
-use super::serving::clear_frame;
+use super::page_moves::clear_frame;
 use super::sizes::{first_frame, seat_pages};
+use super::stored_over::forget_unless;
 use super::unit::Unit;
 use page_table::{SegmentRegs, Table, Tlb};
 
@@ -13,7 +13,7 @@ use page_table::{SegmentRegs, Table, Tlb};
 pub const PRIVATE: u16 = 3840;
 
 impl Unit {
-    ghost use Rattle.storage_unit.specs.Served.{begun, ended, selected};
+    ghost use Rattle.storage_unit.specs.Served.{seat_begun, seat_ended, selected};
     ghost use Rattle.storage_unit.specs.View.{reach_of};
 
     /// A seat that isn't begun is begun: its private storage is an image and zeros after it.
@@ -21,7 +21,7 @@ impl Unit {
         requires seat { seat < 16 }
         requires image { length image.now ≤ 16384 }
         requires fresh { slice_index_or (reach_of self.old).begun seat true ≡ false }
-        ensures { reach_of self.new ≡ begun (reach_of self.old) seat image.now }
+        ensures { reach_of self.new ≡ seat_begun (reach_of self.old) seat image.now }
     {
         let page = self.directory.page();
         enter_pages(
@@ -42,7 +42,7 @@ impl Unit {
     /// A seat is begun no more. If it was selected, no address is reached until the next one is.
     pub fn end(&mut self, seat: u8)
         requires { seat < 16 }
-        ensures { reach_of self.new ≡ ended (reach_of self.old) seat }
+        ensures { reach_of self.new ≡ seat_ended (reach_of self.old) seat }
     {
         let page = self.directory.page();
         leave_pages(

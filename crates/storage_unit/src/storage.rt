@@ -2,19 +2,19 @@
 ghost use Rattle.std.specs.Prelude.{◌≡◌, ◌+◌, ◌≤◌, true, false, IfSome};
 ghost use Rattle.storage_unit.specs.Below.{FitsRegisters};
 ghost use Rattle.storage_unit.specs.ReadyRows.{IsMadeOf};
-ghost use Rattle.storage_unit.specs.Reach.{is_in_frame, refuses};
+ghost use Rattle.storage_unit.specs.Reach.{is_in_frame, refuses_byte};
 ghost use Rattle.storage_unit.specs.Rows.{StepsOver};
-ghost use Rattle.storage_unit.specs.Accesses.{IsRead, IsWritten};
+ghost use Rattle.storage_unit.specs.Accesses.{IsLoaded, AreStored};
 
-use super::model::Reach;
 use super::unit::Unit;
+use super::unit_model::Reach;
 use byteorder::{BigEndian, ByteOrder};
 use flat_machine::{Ready, fill, gather, ready_of};
 use page_table::Check;
 use romp_cpu::{Access, Attempt, Cpu, Probe, Storage};
 
 impl Storage for Unit {
-    ghost use Rattle.storage_unit.specs.Reach.{byte_at, is_in_frame, refuses, stored};
+    ghost use Rattle.storage_unit.specs.Reach.{byte_at, is_in_frame, refuses_byte, stored};
     ghost use Rattle.storage_unit.specs.View.{reach_of};
 
     type State = Reach;
@@ -27,7 +27,7 @@ impl Storage for Unit {
 
     ghost is_in_frame = { is_in_frame };
 
-    ghost refuses = { refuses };
+    ghost refuses = { refuses_byte };
 
     ghost stored = { stored };
 
@@ -143,7 +143,7 @@ impl Unit {
     #[inline(always)]
     fn read_any(&mut self, wants: &Access, to: u8, sign: bool, regs: &mut [u32; 16]) -> Probe
         requires { FitsRegisters wants.now false to }
-        ensures { IsRead self.old self.new wants.now to sign regs.old regs.new result }
+        ensures { IsLoaded self.old self.new wants.now to sign regs.old regs.new result }
     {
         let bytes = u32::from(wants.bytes);
         match self.registers.locate(wants.address, bytes, wants.store) {
@@ -161,7 +161,7 @@ impl Unit {
     #[inline(always)]
     fn write_any(&mut self, wants: &Access, from: u8, regs: &[u32; 16]) -> Probe
         requires { FitsRegisters wants.now true from }
-        ensures { IsWritten self.old self.new wants.now from regs.now result }
+        ensures { AreStored self.old self.new wants.now from regs.now result }
     {
         let bytes = u32::from(wants.bytes);
         match self.registers.locate(wants.address, bytes, wants.store) {
@@ -180,7 +180,7 @@ impl Unit {
     #[tactic(auto, using(std::proofs::lemmas::Bool::Decides::nat_tests))]
     fn read_apart(&mut self, wants: &Access, to: u8, sign: bool, regs: &mut [u32; 16]) -> Probe
         requires { FitsRegisters wants.now false to }
-        ensures { IsRead self.old self.new wants.now to sign regs.old regs.new result }
+        ensures { IsLoaded self.old self.new wants.now to sign regs.old regs.new result }
     {
         let probe = self.probe(wants);
         if let Probe::Permitted = probe {
@@ -196,7 +196,7 @@ impl Unit {
     #[inline(never)]
     fn write_apart(&mut self, wants: &Access, from: u8, regs: &[u32; 16]) -> Probe
         requires { FitsRegisters wants.now true from }
-        ensures { IsWritten self.old self.new wants.now from regs.now result }
+        ensures { AreStored self.old self.new wants.now from regs.now result }
     {
         let probe = self.probe(wants);
         if let Probe::Permitted = probe {

@@ -1,8 +1,8 @@
 // The unit's parts, and that they agree.
 ghost use Rattle.std.specs.Prelude.{◌≡◌, ◌≤◌, length, IfOk};
-ghost use Rattle.storage_unit.specs.Below.{after_found, found, IsLegal, IsOfTable, key_of, page_count};
+ghost use Rattle.storage_unit.specs.Below.{after_found, found, AreSegmentsLegal, IsOfTable, key_of, page_count};
 ghost use Rattle.storage_unit.specs.Held.{frame_found, keys_of, IsSelected, table_of};
-ghost use Rattle.storage_unit.specs.Laws.{Fits};
+ghost use Rattle.storage_unit.specs.PoolLaws.{PoolFits};
 ghost use Rattle.storage_unit.specs.PlanCodes.{plan_set};
 ghost use Rattle.storage_unit.specs.ReadyRows.{AreReady};
 ghost use Rattle.storage_unit.specs.OpenLines.{AreOpened};
@@ -35,8 +35,8 @@ pub struct Unit {
     pub(crate) lines: OpenLines,
     pub(crate) used: [u32; 16],
     ghost sixteen: { length begun ≡ 16 },
-    ghost legal: { IsLegal directory.segments },
-    ghost fits: { Fits directory pool },
+    ghost legal: { AreSegmentsLegal directory.segments },
+    ghost fits: { PoolFits directory pool },
     ghost entries: { length table.entries ≡ page_count directory },
     ghost held: { table.keys ≡ keys_of directory begun pool.frames pool.page_in },
     ghost remembered: { IsOfTable buffer table.keys },

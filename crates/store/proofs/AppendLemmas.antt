@@ -1,5 +1,5 @@
 -- What the images of an append stand for.
-use Rattle.store.proofs.Common.{◌≡◌, inl, inr, ℕ, zero, suc, ◌+◌, ◌*◌, ◌-◌, ◌%◌, ◌^◌, ◌<◌, ◌≤◌, true, false, List, [], ◌∷◌, ◌++◌, length, take, drop, refl, sym, ◌∙◌, ap, subst, arith, slice_index, slice_set, option_map, drop-drop, take_all, take-set-le, drop-set-lt, length-set, get_or-set_same, length-take-le, line_count, PageSize, Which, Header, number_at, home_at, bank_at, entry_bytes, RecordLine, lines_from, wrong_line, record_bytes, area_of, IsStore, stands, one_more, same_number_at, same_lines, same_byte, later_front, shorter_front, Around, area_within, store_same, stands_same, stands_more, store_more, Ghosts, held_of, Inside, is_open, HasBody, IsSafe, KeptBank, place_of, end_of, area_end, begun_of, needed_end, with_record, noted, AreNewest, buffered, begun_count, begun_lines, kept_of, IsWhole, TracksBank, IsEither, HoldsOneOf, Option, None, Some, unwrap_or, IsSome, ◌==◌, nat_tests, cases_Bool}
+use Rattle.store.proofs.Common.{◌≡◌, inl, inr, ℕ, zero, suc, ◌+◌, ◌*◌, ◌-◌, ◌%◌, ◌^◌, ◌<◌, ◌≤◌, true, false, List, [], ◌∷◌, ◌++◌, length, take, drop, refl, sym, ◌∙◌, ap, subst, arith, slice_index, slice_set, option_map, drop-drop, take_all, take-set-le, drop-set-lt, length-set, get_or-set_same, length-take-le, line_count, PageSize, Which, Header, number_at, home_at, bank_at, entry_bytes, RecordLine, lines_from, wrong_line, record_bytes, area_of, IsStore, stands, one_more, same_number_at, same_lines, same_byte, later_front, shorter_front, Around, area_within, store_same, stands_same, stands_more, store_more, Ghosts, held_of, Inside, is_open, HasBody, IsSafe, BankView, bank_place, end_of, area_end, begun_of, needed_end, with_record, noted, AreNewest, buffered, begun_count, begun_lines, kept_of, IsWholeBank, TracksBank, IsEither, HoldsOneOf, Option, None, Some, unwrap_or, IsSome, ◌==◌, nat_tests, cases_Bool}
 use Rattle.store_format.specs.Body.{IsBody}
 use Rattle.store_format.proofs.Stores as stores
 
@@ -14,7 +14,7 @@ end_is : (header : Header) (which : Which) (bytes : ℕ) → header.bank_bytes �
 end_is header which bytes same = grind (arith, nat_tests)
 
 -- a bank lies where the header says
-pub place_is : (header : Header) (which : Which) (bytes : ℕ) → header.bank_bytes ≡ bytes → bank_at header which ≡ place_of which bytes
+pub place_is : (header : Header) (which : Which) (bytes : ℕ) → header.bank_bytes ≡ bytes → bank_at header which ≡ bank_place which bytes
 place_is header which bytes same = grind (arith, nat_tests)
 
 -- the body that was filled in is one
@@ -35,7 +35,7 @@ body_of page bound due gate count old new room long counted numbered lines close
       closed = same_byte (10 + entry_bytes page * count) (11 + entry_bytes page * count) (take (11 + entry_bytes page * count) new) new front (omega arith) ∙ closed;
     }
 
-pub make_ready : {W : Type 0} (G : Ghosts W) (bank : Inside) (outside : W) (tracks : TracksBank G (kept_of bank) outside) → IsWhole bank
+pub make_ready : {W : Type 0} (G : Ghosts W) (bank : Inside) (outside : W) (tracks : TracksBank G (kept_of bank) outside) → IsWholeBank bank
     → (filled body : List ℕ) (due : ℕ) → body ≡ take (record_bytes bank.page (begun_count bank)) filled → length filled ≡ length bank.body → number_at filled 0 2 ≡ (begun_count bank) → number_at filled 2 8 ≡ due
     → take (entry_bytes bank.page * begun_count bank) (drop 10 filled) ≡ take (entry_bytes bank.page * begun_count bank) (drop 10 bank.body) → slice_index filled (10 + entry_bytes bank.page * begun_count bank) ≡ 0
     → due ≡ ((bank.base + bank.count) % 2 ^ 64 + 1) % 2 ^ 64 → bank.gate + record_bytes bank.page (begun_count bank) + 1 ≤ end_of bank.which bank.bank_bytes
@@ -122,46 +122,46 @@ length-lines_from page (suc count) at bytes = omega (arith, length-lines_from pa
 begun_by : (begun : Option ℕ) (bank : Inside) → unwrap_or (option_map (buffered bank) begun) [] ≡ buffered bank (unwrap_or begun 0)
 begun_by begun bank = grind (arith, nat_tests)
 
-pub begun_is : (bank : Inside) (kept : KeptBank) → kept_of bank ≡ kept → begun_lines bank ≡ begun_of kept
+pub begun_is : (bank : Inside) (kept : BankView) → kept_of bank ≡ kept → begun_lines bank ≡ begun_of kept
 begun_is bank kept is = sym (begun_by bank.begun bank) ∙ ap begun_of is
 
-pub length-begun : (bank : Inside) (kept : KeptBank) → kept_of bank ≡ kept → length (begun_of kept) ≡ (begun_count bank)
+pub length-begun : (bank : Inside) (kept : BankView) → kept_of bank ≡ kept → length (begun_of kept) ≡ (begun_count bank)
 length-begun bank kept is = ap length (sym (begun_is bank kept is)) ∙ length-lines_from bank.page (begun_count bank) (bank.gate + 11) (drop 10 bank.body)
 
 -- a record that is begun is in the fields
 some_by : (begun : Option ℕ) (bank : Inside) → IsSome (option_map (buffered bank) begun) → IsSome begun
 some_by begun bank some = grind (arith, nat_tests)
 
-pub is_begun : (bank : Inside) (kept : KeptBank) → kept_of bank ≡ kept → IsSome kept.begun → IsSome bank.begun
-is_begun bank kept is some = some_by bank.begun bank (subst (λ (those : KeptBank). IsSome those.begun) (sym is) some)
+pub is_begun : (bank : Inside) (kept : BankView) → kept_of bank ≡ kept → IsSome kept.begun → IsSome bank.begun
+is_begun bank kept is some = some_by bank.begun bank (subst (λ (those : BankView). IsSome those.begun) (sym is) some)
 
 pub unwrapped : (begun : Option ℕ) (count : ℕ) → begun ≡ Some count → unwrap_or begun 0 ≡ count
 unwrapped begun count is = ap (λ (those : Option ℕ). unwrap_or those 0) is
 
 -- what the fields say of room is what the kept bank says
-pub record SaysRoom (bank : Inside) (kept : KeptBank) : Type 0 where
+pub record SaysRoom (bank : Inside) (kept : BankView) : Type 0 where
   pub end : area_end kept ≡ end_of bank.which bank.bank_bytes
   pub need : needed_end kept ≡ bank.gate + record_bytes bank.page (begun_count bank) + 1
 
-pub says_room : (bank : Inside) (kept : KeptBank) → kept_of bank ≡ kept → SaysRoom bank kept
+pub says_room : (bank : Inside) (kept : BankView) → kept_of bank ≡ kept → SaysRoom bank kept
 says_room bank kept is = grind (arith, nat_tests, length-begun)
 
 -- the fields are tracked as the bank is
-abbrev pub fields_tracked : {W : Type 0} (G : Ghosts W) (bank : Inside) (kept : KeptBank) (outside : W) → kept_of bank ≡ kept → TracksBank G kept outside → TracksBank G (kept_of bank) outside
+abbrev pub fields_tracked : {W : Type 0} (G : Ghosts W) (bank : Inside) (kept : BankView) (outside : W) → kept_of bank ≡ kept → TracksBank G kept outside → TracksBank G (kept_of bank) outside
 fields_tracked G bank kept outside is tracks = record {
   sure = tracks.sure;
   header = tracks.header;
   records = tracks.records;
-  store = subst (λ (those : KeptBank). IsStore (held_of G outside) tracks.header those.which those.base those.gate tracks.records) (sym is) tracks.store;
-  page = tracks.page ∙ ap (λ (those : KeptBank). those.page) (sym is);
-  bank_bytes = tracks.bank_bytes ∙ ap (λ (those : KeptBank). those.bank_bytes) (sym is);
-  bound = tracks.bound ∙ ap (λ (those : KeptBank). length those.newest) (sym is);
-  count = tracks.count ∙ ap (λ (those : KeptBank). those.count) (sym is);
-  newest = subst (λ (those : KeptBank). AreNewest those.newest tracks.records) (sym is) tracks.newest;
+  store = subst (λ (those : BankView). IsStore (held_of G outside) tracks.header those.which those.base those.gate tracks.records) (sym is) tracks.store;
+  page = tracks.page ∙ ap (λ (those : BankView). those.page) (sym is);
+  bank_bytes = tracks.bank_bytes ∙ ap (λ (those : BankView). those.bank_bytes) (sym is);
+  bound = tracks.bound ∙ ap (λ (those : BankView). length those.newest) (sym is);
+  count = tracks.count ∙ ap (λ (those : BankView). those.count) (sym is);
+  newest = subst (λ (those : BankView). AreNewest those.newest tracks.records) (sym is) tracks.newest;
 }
 
 -- the bank with its begun record is what the fields say then
-pub with_record_is : (bank : Inside) (kept : KeptBank) (gate : ℕ) (newest : List (Option ℕ)) → kept_of bank ≡ kept → gate ≡ bank.gate + record_bytes bank.page (begun_count bank) → newest ≡ noted bank.newest (begun_lines bank)
+pub with_record_is : (bank : Inside) (kept : BankView) (gate : ℕ) (newest : List (Option ℕ)) → kept_of bank ≡ kept → gate ≡ bank.gate + record_bytes bank.page (begun_count bank) → newest ≡ noted bank.newest (begun_lines bank)
     → record (kept_of bank) { count = bank.count + 1; gate = gate; newest = newest; begun = None } ≡ with_record kept
 with_record_is bank kept gate newest is gate_is newest_is = grind (arith, nat_tests, begun_is, length-begun)
 

@@ -17,17 +17,17 @@ pub use Rattle.store_format.proofs.Padded.{read_is}
 pub use Rattle.store_format.proofs.Stores.{Around, area_within, fault_none, not_less, stands_more, stands_same, store_more, store_same, stands_is}
 pub use Rattle.store_format.proofs.Walk.{IsSound, follows, has_bank, sound_is}
 pub use Rattle.store_format.proofs.Widths.{entries-below, lines-below, lines-within}
-pub use Rattle.store_format.specs.Bank.{Area, Bank, Closed, Faulty, Gate, Holds, HoldsFrom, RecordLine, Sound, Wrong, area_at, area_behind, area_of, bank_held, base_of, count_of, gate_at, gate_if, lined_gate, lines_from, lines_of, preceded, record_bytes, wrong_line, bank_of, head_fault}
+pub use Rattle.store_format.specs.Bank.{Area, BankContent, Closed, Faulty, Gate, Holds, HoldsFrom, RecordLine, Sound, Wrong, area_at, area_behind, area_of, bank_held, base_of, count_of, gate_at, gate_if, lined_gate, lines_from, parsed_lines, preceded, record_bytes, wrong_line, bank_of, head_fault}
 unfoldable pub use Rattle.store_format.specs.Bank.{holds_from}
 pub use Rattle.store_format.specs.Stands.{Damaged, IsStore, Standing, Stands, home_of, laid, one_more, HasHeader, chosen, standing_by, standing_if}
 unfoldable pub use Rattle.store_format.specs.Stands.{stands}
-pub use Rattle.store.specs.Held.{HasBody, IsSafe, IsShut, is_open, IsMoreBy, OnlyWrites, WritesOnce}
-pub use Rattle.store.specs.Inside.{IsWhole, begun_count, begun_lines, buffered, kept_of}
-pub use Rattle.store.specs.Kept.{KeptBank, SameShape, StaysWithin, area_end, begun_of, end_of, line_bytes_of, needed_end, place_of, record_bytes_of, spoilt, with_line, with_record, AreNewest, AreWithin, IsNowhere, newest_place, noted, place_in, newest_over}
+pub use Rattle.store.specs.Held.{HasBody, IsSafe, IsGateShut, is_open, IsMoreBy, OnlyWrites, WritesOnce}
+pub use Rattle.store.specs.Inside.{IsWholeBank, begun_count, begun_lines, buffered, kept_of}
+pub use Rattle.store.specs.Kept.{BankView, SameShape, StaysWithin, area_end, begun_of, end_of, line_bytes_of, needed_end, bank_place, record_bytes_of, spoilt, with_line, with_record, AreNewest, AreNewestWithin, IsNowhere, newest_place, noted, place_in, newest_over}
 pub use Rattle.store.specs.Read.{AreRead, IsBank}
-pub use Rattle.store.specs.Records.{IsCounted, IsCountedAt, IsLine, IsLineOf, IsRecordAt, area_bytes, IsFound, ReadsLine, ReadsRecord}
+pub use Rattle.store.specs.Records.{IsCounted, IsCountedAt, BeginsWithLine, IsLineOf, IsRecordAt, area_bytes, IsFound, ReadsLine, ReadsRecord}
 pub use Rattle.store.specs.Tracks.{HoldsOneOf, IsAppended, IsEither, TracksBank, HoldsRecords}
-pub use Rattle.store.specs.Turned.{head_bytes, placed, turned}
+pub use Rattle.store.specs.Turned.{head_bytes, placed, bank_turned}
 pub use Rattle.store.specs.declared.redo_journal.Bank.TheInside.{Inside}
 pub use Rattle.store.specs.declared.find.Record.{Record}
 pub use Rattle.std.proofs.lemmas.Grind.{common_steps, elements}
@@ -35,15 +35,15 @@ pub use Rattle.outside.proofs.Torn.{torn_by_written}
 pub use Rattle.outside.specs.Moments.{Elapses, LeavesStep, IsDurable, IsOneCall, PrintsNothing}
 pub use Rattle.store.specs.Appended.{CountsKept, FailedLeaves, bank_appended, kept_in, IsApart, Appends}
 pub use Rattle.store_format.proofs.Elsewhere.{base_behind, behind_bytes, header_held, same_header, stands_alike, store_behind, store_big, store_empty, store_front}
-pub use Rattle.store.specs.Committed.{IsSameBut, IsHomeOffset, IsCheckpointOffset, IsCommitOffset, Commits, HoldsCommitted, IsKeptAfter, LeavesCommitted, emptied, number_after, roomy, IsCovered, IsHomed, TornLine, copied, home_line, home_place, store_bytes, IsMoved, IsSame, IsCheckpointed}
+pub use Rattle.store.specs.Committed.{IsSameBut, IsHomeOffset, IsCheckpointOffset, IsCommitOffset, Commits, HoldsCommitted, IsKeptAfter, LeavesCommitted, emptied, number_by_answer, roomy, IsHomeCovered, IsHomed, TornLine, copied, home_line, home_place, store_bytes, IsMoved, IsSame, IsCheckpointed}
 pub use Rattle.store.specs.Chosen.{other, selector_of, IsChosen}
 pub use Rattle.store.specs.declared.keep.Kept.{Kept}
 pub use Rattle.lines.proofs.WithinLemmas.{byte_count-lines, page-lines}
 pub use Rattle.lines.specs.Directory.{Layout, byte_count, page_count}
-pub use Rattle.store.specs.declared.fault.ReopenFault.{ReopenFault}
+pub use Rattle.store.specs.declared.open_fault.ReopenFault.{ReopenFault}
 pub use Rattle.store.specs.Faults.{IsStoreOpenFault, IsStoreReopenFault}
-pub use Rattle.store.specs.KeptStore.{Fits, KeptStore, with_begun}
-pub use Rattle.store.specs.Shows.{IsStoreWith, IsReopened, ShownStands, Shows, TracksStore, page_in}
+pub use Rattle.store.specs.KeptStore.{Fits, StoreView, with_begun}
+pub use Rattle.store.specs.Shows.{IsStoreWith, IsFoundAgain, ShownStands, Shows, TracksStore, page_in}
 pub use Rattle.std.specs.List.{list_any}
 pub use Rattle.store_format.proofs.Checks.{option_or-assoc}
 pub use Rattle.std.proofs.lemmas.Option.{slice_get-get_or, get_or_from_slice_get}

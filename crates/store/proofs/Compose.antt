@@ -1,5 +1,5 @@
 -- A page whose home lines have the newest lines over them.
-use Rattle.store.proofs.Common.{◌≡◌, inl, inr, ℕ, ◌+◌, ◌*◌, ◌-◌, ◌<◌, ◌≤◌, List, length, take, drop, get_or, refl, sym, ◌∙◌, ap, arith, Option, None, Some, IfSome, fold, slice_range, is_some, false, drop-drop, drop-take, take-take, length-drop, length-take-le, places, page_count, line_count, PageSize, page-lines, line_bytes, Header, home_at, laid, home_of, stands, stands_is, bytes_at, KeptStore, Shows, page_in, newest_over, list_any, nat_tests, ◌++◌, append_assoc, newest_place, cases_eq, lines-below, lines-within}
+use Rattle.store.proofs.Common.{◌≡◌, inl, inr, ℕ, ◌+◌, ◌*◌, ◌-◌, ◌<◌, ◌≤◌, List, length, take, drop, get_or, refl, sym, ◌∙◌, ap, arith, Option, None, Some, IfSome, fold, slice_range, is_some, false, drop-drop, drop-take, take-take, length-drop, length-take-le, places, page_count, line_count, PageSize, page-lines, line_bytes, Header, home_at, laid, home_of, stands, stands_is, bytes_at, StoreView, Shows, page_in, newest_over, list_any, nat_tests, ◌++◌, append_assoc, newest_place, cases_eq, lines-below, lines-within}
 use Rattle.store.proofs.Newest.{bytes_of_line, newest_bytes, same_line, other_line, same_lines, Agree, store_agrees}
 use Rattle.std.proofs.lemmas.List.Folds.{list_any_at}
 use Rattle.store.proofs.ShowLemmas.{shown_store}
@@ -66,7 +66,7 @@ composed_all size image home bytes newest places bound page_number page agree sa
     ∙ sym (line_of_part size bytes (page_number * (16 * line_bytes size)) k few))
 
 -- the page of a store that shows the bytes
-pub shown_page : (held : List ℕ) (store : KeptStore) (shows : Shows held store) (page : List ℕ) (page_number : ℕ) → page_number < page_count store.header.directory → length page ≡ (16 * line_bytes store.header.directory.page)
+pub shown_page : (held : List ℕ) (store : StoreView) (shows : Shows held store) (page : List ℕ) (page_number : ℕ) → page_number < page_count store.header.directory → length page ≡ (16 * line_bytes store.header.directory.page)
     → Composed store.header.directory.page held (home_of held store.header) store.bank.newest (page_number * 16) 16 page → page ≡ page_in (stands held) page_number
 shown_page held store shows page page_number within long composed =
     let is = shown_store held store shows in

@@ -1,5 +1,5 @@
 -- Bytes that stay, and newest bytes that are written home.
-use Rattle.store.proofs.Common.{◌≡◌, inl, inr, ℕ, ◌+◌, ◌*◌, ◌-◌, ◌<◌, ◌≤◌, List, length, take, drop, refl, sym, ◌∙◌, ap, subst, arith, Option, None, Some, fold, drop-drop, take_at, length-drop, length-take-le, line_count, PageSize, Which, Header, home_at, bank_at, KeptBank, end_of, line_bytes_of, RecordLine, IsStore, laid, home_of, shorter_front, rest_front, area_within, store_front, behind_bytes, bytes_at, written, Torn, torn_by_written, home_line, home_place, copied, TornLine, IsHomeOffset, IsCovered, IsHomed, cases_lt, cases_eq, nat_tests, get_or-drop, same_byte, IsSameBut, IsApart, slice_index, store_big, newest_place, lines-below}
+use Rattle.store.proofs.Common.{◌≡◌, inl, inr, ℕ, ◌+◌, ◌*◌, ◌-◌, ◌<◌, ◌≤◌, List, length, take, drop, refl, sym, ◌∙◌, ap, subst, arith, Option, None, Some, fold, drop-drop, take_at, length-drop, length-take-le, line_count, PageSize, Which, Header, home_at, bank_at, BankView, end_of, line_bytes_of, RecordLine, IsStore, laid, home_of, shorter_front, rest_front, area_within, store_front, behind_bytes, bytes_at, written, Torn, torn_by_written, home_line, home_place, copied, TornLine, IsHomeOffset, IsHomeCovered, IsHomed, cases_lt, cases_eq, nat_tests, get_or-drop, same_byte, IsSameBut, IsApart, slice_index, store_big, newest_place, lines-below}
 use Rattle.lines.specs.Segments.{line_bytes}
 use Rattle.store.proofs.Newest.{bytes_of_line, newest_bytes, store_agrees, held_records, newest_within, same_lines}
 use Rattle.store.proofs.NoteLemmas.{drop-overlaid}
@@ -37,7 +37,7 @@ home_is : (header : Header) (image : List ℕ) (line : ℕ) → bytes_of_line he
 home_is header image line = grind (arith, nat_tests, drop-drop)
 
 -- both banks lie in front of the home lines
-pub end_within : (which : Which) (bank : KeptBank) (lines : ℕ) → end_of which bank.bank_bytes ≤ home_place bank lines
+pub end_within : (which : Which) (bank : BankView) (lines : ℕ) → end_of which bank.bank_bytes ≤ home_place bank lines
 end_within which bank lines = grind (arith, nat_tests)
 
 -- bytes in the same front
@@ -62,7 +62,7 @@ module _ (header : Header) (which : Which) (base gate : ℕ) (records : List (Li
       let inside = newest_within header.directory.page bound (bank_at header which + 8 + header.bank_bytes) held line place records records_there there in
       omega (arith, inside, (area_within header which).0)
 
-  module _ (start image : List ℕ) (covered : IsCovered header records held start) (line place : ℕ) (below : line < bound) (there : newest_place line records ≡ Some place) (torn : Torn (home_at header line) (line_bytes header.directory.page) start image) where
+  module _ (start image : List ℕ) (covered : IsHomeCovered header records held start) (line place : ℕ) (below : line < bound) (there : newest_place line records ≡ Some place) (torn : Torn (home_at header line) (line_bytes header.directory.page) start image) where
     -- another line's home is as it was
     other_home : (k : ℕ) → (k ≡ line → ⊥) → k < bound → home_line header image k ≡ home_line header start k
     other_home k different within = elim (cases_lt k line) [
@@ -74,7 +74,7 @@ module _ (header : Header) (which : Which) (base gate : ℕ) (records : List (Li
           (omega (arith, lines-below header.directory.page line k less)))
     ]
 
-    pub torn_covered : IsCovered header records held image
+    pub torn_covered : IsHomeCovered header records held image
     torn_covered = record {
       front = shorter_front (home_at header 0) (home_at header line) image start torn.before (omega arith) ∙ covered.front;
       others = λ k within none. other_home k (λ same. let both : None ≡ Some place = sym none ∙ ap (λ (n : ℕ). newest_place n records) same ∙ there in cc) within ∙ covered.others k within none;
@@ -123,7 +123,7 @@ module _ (header : Header) (which : Which) (base gate : ℕ) (records : List (Li
       ];
     }
 
-  module _ (image : List ℕ) (covered : IsCovered header records held image) where
+  module _ (image : List ℕ) (covered : IsHomeCovered header records held image) where
     pub covered_store : IsStore image header which base gate records
     covered_store =
         store_front header which base gate records held is image (home_at header 0)
@@ -153,15 +153,15 @@ module _ (header : Header) (which : Which) (base gate : ℕ) (records : List (Li
       line_home line (Some place) below there = home_is header image line ∙ homed.homed line place below below there
 
   -- a line after its bytes were copied, where there are any
-  module _ (bank : KeptBank) (line : ℕ) (sized : header.directory.page ≡ bank.page) (same : header.bank_bytes ≡ bank.bank_bytes) (below : line < bound) where
+  module _ (bank : BankView) (line : ℕ) (sized : header.directory.page ≡ bank.page) (same : header.bank_bytes ≡ bank.bank_bytes) (below : line < bound) where
     home_same : home_place bank line ≡ home_at header line
     home_same = omega (arith, same, ap (λ (page : PageSize). line_bytes page * line) sized)
 
     width : line_bytes_of bank ≡ line_bytes header.directory.page
     width = ap line_bytes (sym sized)
 
-    pub step_covered : (place : Option ℕ) → newest_place line records ≡ place → (start image : List ℕ) → IsCovered header records held start → TornLine (line_bytes_of bank) place (home_place bank line) start image → IsCovered header records held image
-    step_covered None there start image covered torn = subst (λ (those : List ℕ). IsCovered header records held those) (sym torn) covered
+    pub step_covered : (place : Option ℕ) → newest_place line records ≡ place → (start image : List ℕ) → IsHomeCovered header records held start → TornLine (line_bytes_of bank) place (home_place bank line) start image → IsHomeCovered header records held image
+    step_covered None there start image covered torn = subst (λ (those : List ℕ). IsHomeCovered header records held those) (sym torn) covered
     step_covered (Some place) there start image covered torn =
         torn_covered start image covered line place below there (subst (λ (n : ℕ). Torn n (line_bytes header.directory.page) start image) home_same (subst (λ (n : ℕ). Torn (home_place bank line) n start image) width torn))
 

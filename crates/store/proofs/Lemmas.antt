@@ -1,7 +1,7 @@
 -- The lemmas of this crate that several of its functions' proofs cite, passed on from one place. Declares nothing.
 pub use Rattle.store.proofs.AppendLemmas.{IsReadied, after, begun_is, doubted, either, fields_tracked, filled_lines, is_begun, length-begun, make_ready, more, one_of, place_is, same, says_room, shut, unwrapped, with_record_is}
 pub use Rattle.store.proofs.CommitLemmas.{adds_same, answered_by, appended_apart, behind_apart, carried, count_kept, counts_on, either_same, failed_behind, kept_after, leaves_committed, number_kept, roomy_fits, roomy_full, shape_on, two_more, usable_kept}
-pub use Rattle.store.proofs.Common.{All, Appends, AreNewest, AreWithin, Bool, Commits, CountsKept, Err, Failed, FailedLeaves, Fits, HasHeader, Header, Holds, HoldsCommitted, HoldsOneOf, HoldsRecords, IfErr-weaker, IfOk, IfOk-weaker, IfSome, Inside, IsApart, IsAppended, IsBank, IsCheckpointed, IsChosen, IsCommitOffset, IsCounted, IsCountedAt, IsCovered, IsEither, IsFound, IsHomed, IsKeptAfter, IsLine, IsLineOf, IsMoved, IsRecordAt, IsSafe, IsSame, IsSameBut, IsShut, IsSome, IsStore, IsStoreReopenFault, IsStoreWith, IsSure, IsTrue, IsWritten, Kept, KeptBank, KeptStore, Layout, Leaves, LeavesStep, List, None, Ok, OnOk, OnlyAsks, OnlyWrites, Option, PageSize, ReadsLine, ReadsRecord, Record, RecordLine, ReopenFault, Result, SameShape, Shows, Some, StaysWithin, Torn, TracksBank, TracksStore, Which, [], ap, area_at, area_end, arith, asks_on, asks_one, bank_appended, bank_at, bank_held, begun_count, begun_lines, begun_of, big_from-take, big_number, bytes_at, common_steps, drop, drop-drop, elements, emptied, end_of, entries-below, entry_bytes, fold, gate_at, gate_if, get_or, get_or-replicate, head_bytes, header_of, held_of, home_at, home_of, in_order, inl, inr, is_open, is_some, kept_in, kept_of, leaves_held, leaves_on, leaves_same, length, length-append, length-drop, length-replicate, length-take-le, line_bytes, line_bytes_of, line_count, lined_gate, lines_from, list_any, nat_tests, needed_end, newest_over, nil_from_length, noted, number_at, on_ok_weaker, one_more, other, overlaid, page-lines, page_bytes, page_count, place_of, read_is, record_bytes, record_bytes_of, refl, replicate, roomy, rules, selector_of, slice_index, slice_range, slice_set, spoilt, stands, store_bytes, subst, sym, take, told_some, torn_first, total, turned, unwrap_or, with_line, written, wrong_line, wrong_line-push, ℕ, ⊎_elim, ◌%◌, ◌*◌, ◌++◌, ◌+◌, ◌<◌, ◌==◌, ◌^◌, ◌∙◌, ◌∷◌, ◌≡◌, ◌≤◌}
+pub use Rattle.store.proofs.Common.{All, Appends, AreNewest, AreNewestWithin, Bool, Commits, CountsKept, Err, Failed, FailedLeaves, Fits, HasHeader, Header, Holds, HoldsCommitted, HoldsOneOf, HoldsRecords, IfErr-weaker, IfOk, IfOk-weaker, IfSome, Inside, IsApart, IsAppended, IsBank, IsCheckpointed, IsChosen, IsCommitOffset, IsCounted, IsCountedAt, IsHomeCovered, IsEither, IsFound, IsHomed, IsKeptAfter, BeginsWithLine, IsLineOf, IsMoved, IsRecordAt, IsSafe, IsSame, IsSameBut, IsGateShut, IsSome, IsStore, IsStoreReopenFault, IsStoreWith, IsSure, IsTrue, IsWritten, Kept, BankView, StoreView, Layout, Leaves, LeavesStep, List, None, Ok, OnOk, OnlyAsks, OnlyWrites, Option, PageSize, ReadsLine, ReadsRecord, Record, RecordLine, ReopenFault, Result, SameShape, Shows, Some, StaysWithin, Torn, TracksBank, TracksStore, Which, [], ap, area_at, area_end, arith, asks_on, asks_one, bank_appended, bank_at, bank_held, begun_count, begun_lines, begun_of, big_from-take, big_number, bytes_at, common_steps, drop, drop-drop, elements, emptied, end_of, entries-below, entry_bytes, fold, gate_at, gate_if, get_or, get_or-replicate, head_bytes, header_of, held_of, home_at, home_of, in_order, inl, inr, is_open, is_some, kept_in, kept_of, leaves_held, leaves_on, leaves_same, length, length-append, length-drop, length-replicate, length-take-le, line_bytes, line_bytes_of, line_count, lined_gate, lines_from, list_any, nat_tests, needed_end, newest_over, nil_from_length, noted, number_at, on_ok_weaker, one_more, other, overlaid, page-lines, page_bytes, page_count, bank_place, read_is, record_bytes, record_bytes_of, refl, replicate, roomy, rules, selector_of, slice_index, slice_range, slice_set, spoilt, stands, store_bytes, subst, sym, take, told_some, torn_first, total, bank_turned, unwrap_or, with_line, written, wrong_line, wrong_line-push, ℕ, ⊎_elim, ◌%◌, ◌*◌, ◌++◌, ◌+◌, ◌<◌, ◌==◌, ◌^◌, ◌∙◌, ◌∷◌, ◌≡◌, ◌≤◌}
 pub use Rattle.store.proofs.Compose.{Composed, composed_at_home, composed_more, composed_none, placed_at, shown_page, spliced}
 pub use Rattle.store.proofs.FillLemmas.{least_low, line_added, lines_stay, numbered}
 pub use Rattle.store.proofs.GateLemmas.{held_is, opened, opened_torn, safe_at, safe_behind}

@@ -1,6 +1,6 @@
 -- The other bank, its head, and the selector.
-use Rattle.store.proofs.Common.{◌≡◌, inl, inr, ◌⊎◌, ℕ, ◌+◌, ◌%◌, ◌^◌, ◌<◌, ◌≤◌, List, [], ◌∷◌, length, drop, refl, ◌∙◌, ap, arith, slice_index, ◌==◌, if◌then◌else◌, fold, Which, A, B, Header, home_at, bank_at, RecordLine, area_at, IsStore, HasHeader, laid, home_of, chosen, stands, shorter_front, same_byte, area_within, same_header, header_held, base_behind, store_behind, store_front, store_empty, store_big, stands_alike, behind_bytes, line_count, written, Torn, torn_by_written, KeptBank, head_bytes, other, selector_of, IsSameBut, IsHomeOffset, IsCheckpointOffset, IsCovered, IsHomed, IsSame, nat_tests, false, ◌++◌, append_assoc, big_bytes, big_number, big_number-reads_back, base_of, overlaid_within, ◌-◌}
-use Rattle.store.specs.Kept.{number_of}
+use Rattle.store.proofs.Common.{◌≡◌, inl, inr, ◌⊎◌, ℕ, ◌+◌, ◌%◌, ◌^◌, ◌<◌, ◌≤◌, List, [], ◌∷◌, length, drop, refl, ◌∙◌, ap, arith, slice_index, ◌==◌, if◌then◌else◌, fold, Which, A, B, Header, home_at, bank_at, RecordLine, area_at, IsStore, HasHeader, laid, home_of, chosen, stands, shorter_front, same_byte, area_within, same_header, header_held, base_behind, store_behind, store_front, store_empty, store_big, stands_alike, behind_bytes, line_count, written, Torn, torn_by_written, BankView, head_bytes, other, selector_of, IsSameBut, IsHomeOffset, IsCheckpointOffset, IsHomeCovered, IsHomed, IsSame, nat_tests, false, ◌++◌, append_assoc, big_bytes, big_number, big_number-reads_back, base_of, overlaid_within, ◌-◌}
+use Rattle.store.specs.Kept.{bank_number}
 use Rattle.store.proofs.HomeLemmas.{more_offsets, but_on, torn_but, covered_store, covered_bytes, homed_bytes, same_behind}
 use Rattle.store.proofs.NoteLemmas.{drop-overlaid, byte_written}
 
@@ -83,9 +83,9 @@ selected old which within = ap (λ (n : ℕ). if n == 1 then B else A) (byte_wri
     by : (w : Which) → (if selector_of w == 1 then B else A) ≡ w
     by w = grind (arith, nat_tests)
 
-module _ (header : Header) (bank : KeptBank) (records : List (List RecordLine)) (held : List ℕ) (is : IsStore held header bank.which bank.base bank.gate records) (counted : length records ≡ bank.count) where
+module _ (header : Header) (bank : BankView) (records : List (List RecordLine)) (held : List ℕ) (is : IsStore held header bank.which bank.base bank.gate records) (counted : length records ≡ bank.count) where
   abbrev number : ℕ
-  number = number_of bank
+  number = bank_number bank
 
   abbrev away : Which
   away = other bank.which
@@ -97,10 +97,10 @@ module _ (header : Header) (bank : KeptBank) (records : List (List RecordLine)) 
   written_at = IsCheckpointOffset header bank.which records
 
   -- home lines, and the head of the other bank, are among the offsets
-  covered_apart : (image : List ℕ) → IsCovered header records held image → IsSameBut written_at held image
+  covered_apart : (image : List ℕ) → IsHomeCovered header records held image → IsSameBut written_at held image
   covered_apart image covered = more_offsets (IsHomeOffset header records) written_at held image (λ at home. inl home) covered.apart
 
-  headed_apart : (start image : List ℕ) → IsCovered header records held start → Torn (bank_at header away) 9 start image → IsSameBut written_at held image
+  headed_apart : (start image : List ℕ) → IsHomeCovered header records held start → Torn (bank_at header away) 9 start image → IsSameBut written_at held image
   headed_apart start image covered torn =
       but_on written_at held start image (covered_apart start covered)
       (torn_but written_at (bank_at header away) 9 start image (omega (arith, covered.apart.long, is.whole, (area_within header away).0, big)) (λ at after inside. inr (inl (after, inside))) torn)
@@ -114,12 +114,12 @@ module _ (header : Header) (bank : KeptBank) (records : List (List RecordLine)) 
   }
 
   -- home lines were written
-  pub covered_same : (image : List ℕ) → IsCovered header records held image → IsSame header bank records held image
+  pub covered_same : (image : List ℕ) → IsHomeCovered header records held image → IsSame header bank records held image
   covered_same image covered =
       same_by image (covered_store header bank.which bank.base bank.gate records held is image covered) (covered_bytes header bank.which bank.base bank.gate records held is image covered) (covered_apart image covered)
 
   -- and the head of the other bank
-  pub headed_same : (start image : List ℕ) → IsCovered header records held start → Torn (bank_at header away) 9 start image → IsSame header bank records held image
+  pub headed_same : (start image : List ℕ) → IsHomeCovered header records held start → Torn (bank_at header away) 9 start image → IsSame header bank records held image
   headed_same start image covered torn =
       let alike = head_alike header bank.which bank.base bank.gate records start image big (covered_store header bank.which bank.base bank.gate records held is start covered) torn in
       same_by image alike.store (ap (λ (home : List ℕ). fold (laid header.directory.page) home records) alike.home ∙ covered_bytes header bank.which bank.base bank.gate records held is start covered) (headed_apart start image covered torn)

@@ -1,5 +1,5 @@
 -- The newest place of a line has its bytes of the store.
-use Rattle.store.proofs.Common.{◌≡◌, inl, inr, ℕ, zero, suc, ◌+◌, ◌*◌, ◌-◌, ◌<◌, ◌≤◌, List, [], ◌∷◌, ◌++◌, length, take, drop, refl, sym, ◌∙◌, ap, subst, arith, option_or, nat_tests, cases_lt, cases_eq, take_at, drop-drop, take-append-drop, length-drop, length-take-le, overlaid, big_number, line_count, PageSize, Which, line_bytes, Header, home_at, bank_at, number_at, entry_bytes, RecordLine, lines_from, wrong_line, lines_of, count_of, Area, Holds, HoldsFrom, gate_at, area_behind, bank_held, follows, has_bank, area_within, laid, home_of, IsStore, shorter_front, rest_front, length-overlaid, lines-below, place_in, newest_place, Option, None, Some, fold, option_or-assoc, nil_from_length}
+use Rattle.store.proofs.Common.{◌≡◌, inl, inr, ℕ, zero, suc, ◌+◌, ◌*◌, ◌-◌, ◌<◌, ◌≤◌, List, [], ◌∷◌, ◌++◌, length, take, drop, refl, sym, ◌∙◌, ap, subst, arith, option_or, nat_tests, cases_lt, cases_eq, take_at, drop-drop, take-append-drop, length-drop, length-take-le, overlaid, big_number, line_count, PageSize, Which, line_bytes, Header, home_at, bank_at, number_at, entry_bytes, RecordLine, lines_from, wrong_line, parsed_lines, count_of, Area, Holds, HoldsFrom, gate_at, area_behind, bank_held, follows, has_bank, area_within, laid, home_of, IsStore, shorter_front, rest_front, length-overlaid, lines-below, place_in, newest_place, Option, None, Some, fold, option_or-assoc, nil_from_length}
 use Rattle.store.proofs.NoteLemmas.{take-overlaid, drop-overlaid, behind-overlaid, first_in_order, or_none, AreBelow, AllBelow, last_of}
 
 -- the bytes of a line in a list of lines
@@ -101,7 +101,7 @@ records_are image area number from gate [] whole holds = tt
 records_are image area number from gate (lines ∷ records) whole holds =
     let next = follows image area holds from gate lines records refl refl in
     let count = count_of (drop from image) in
-    let place : lines_of area.page from (drop from image) ≡ lines_from area.page count (from + 11) (drop (from + 11) image) = ap (λ (these : List ℕ). lines_from area.page count (from + 11) these) (drop-drop 11 from image) in
+    let place : parsed_lines area.page from (drop from image) ≡ lines_from area.page count (from + 11) (drop (from + 11) image) = ap (λ (these : List ℕ). lines_from area.page count (from + 11) these) (drop-drop 11 from image) in
     let first = lines_are area.page area.bound 0 count (from + 11) area.end image (omega (arith, next.sound.is_next, next.sound.fits)) whole (ap (wrong_line area.bound 0) (sym place) ∙ next.sound.in_order) in
     (subst (λ (these : List RecordLine). AreLines area.page area.bound area.end image these) (sym (next.sound.lines_are ∙ place)) first, records_are image area (number + 1) next.next gate records whole next.rest)
 

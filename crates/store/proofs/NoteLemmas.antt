@@ -1,5 +1,5 @@
 -- The newest places of lines, as records are noted.
-use Rattle.store.proofs.Common.{◌≡◌, ℕ, ◌+◌, ◌*◌, ◌-◌, ◌<◌, ◌≤◌, List, [], ◌∷◌, length, take, drop, ◌∙◌, ap, arith, Option, None, Some, nat_tests, drop-drop, take_rest, big_number, overlaid, PageSize, line_bytes, entry_bytes, RecordLine, lines_from, wrong_line, noted, ◌++◌, refl, sym, append_assoc, take_at, drop_at, length-take-le, IfSome, All-nil, All-cons, All-append, All-take, All-drop, AreWithin, ◌⊎◌, get_or, subst, replicate, option_or, cases_eq, get_or-replicate, length-replicate, All-head, All-tail, length-overlaid, place_in, newest_place, AreNewest, IsNowhere, true, false, ◌==◌, ◌≢◌, if◌then◌else◌, fold, All, overlaid_within, overlaid_before, overlaid_behind, option_or-assoc, suc, nat_le, nat_lt, ◌&&◌, slice_index, slice_get-get_or, NewestLaw}
+use Rattle.store.proofs.Common.{◌≡◌, ℕ, ◌+◌, ◌*◌, ◌-◌, ◌<◌, ◌≤◌, List, [], ◌∷◌, length, take, drop, ◌∙◌, ap, arith, Option, None, Some, nat_tests, drop-drop, take_rest, big_number, overlaid, PageSize, line_bytes, entry_bytes, RecordLine, lines_from, wrong_line, noted, ◌++◌, refl, sym, append_assoc, take_at, drop_at, length-take-le, IfSome, All-nil, All-cons, All-append, All-take, All-drop, AreNewestWithin, ◌⊎◌, get_or, subst, replicate, option_or, cases_eq, get_or-replicate, length-replicate, All-head, All-tail, length-overlaid, place_in, newest_place, AreNewest, IsNowhere, true, false, ◌==◌, ◌≢◌, if◌then◌else◌, fold, All, overlaid_within, overlaid_before, overlaid_behind, option_or-assoc, suc, nat_le, nat_lt, ◌&&◌, slice_index, slice_get-get_or, NewestLaw}
 
 module _ {X : Type 0} (xs : List X) (at : ℕ) (part : List X) (within : at ≤ length xs) where
   pub take-overlaid : take at (overlaid xs at part) ≡ take at xs
@@ -63,7 +63,7 @@ abbrev IsIn : PageSize → ℕ → Option ℕ → Type 0
 IsIn page end place = IfSome place (λ at. at + line_bytes page ≤ end)
 
 -- one place more
-pub within-overlaid : (page : PageSize) (end line at : ℕ) (newest : List (Option ℕ)) → at + line_bytes page ≤ end → AreWithin page end newest → AreWithin page end (overlaid newest line (Some at ∷ []))
+pub within-overlaid : (page : PageSize) (end line at : ℕ) (newest : List (Option ℕ)) → at + line_bytes page ≤ end → AreNewestWithin page end newest → AreNewestWithin page end (overlaid newest line (Some at ∷ []))
 within-overlaid page end line at newest fits are =
     All-append (IsIn page end) (take line newest ++ Some at ∷ []) (drop (line + length (Some at ∷ [])) newest)
     (All-append (IsIn page end) (take line newest) (Some at ∷ []) (All-take (IsIn page end) line newest are) (All-cons (IsIn page end) (Some at) [] fits (All-nil (IsIn page end))))

@@ -1,6 +1,6 @@
 -- Records that are read, and a walk from gate to gate of a bank.
-use Rattle.store.proofs.Common.{◌≡◌, ℕ, suc, ◌+◌, ◌*◌, ◌-◌, ◌<◌, ◌≤◌, true, false, List, [], ◌∷◌, take, drop, refl, sym, subst, ◌∙◌, ap, arith, slice_index, nat_tests, drop-drop, take-take, get_or-take, get_or-drop, big_number, big_from-take, PageSize, entry_bytes, RecordLine, lines_from, wrong_line, count_of, lined_gate, gate_if, Wrong, same_number_at, fault_none, ForSome, bytes_at, noted, read_is, Option, IsSome, IfSome, unwrap_or, ◌&&◌, nat_le, nat_lt, ◌==◌, length, ◌%◌, ◌^◌, ◌++◌, length-append, fold, append-nil, append_assoc, Area, Gate, Closed, Sound, Bank, Holds, Faulty, gate_at, holds_from, preceded, sound_is, AreRead, lines_of, record_bytes, head_fault, None}
-use Rattle.store_format.specs.Bank.{number_of}
+use Rattle.store.proofs.Common.{◌≡◌, ℕ, suc, ◌+◌, ◌*◌, ◌-◌, ◌<◌, ◌≤◌, true, false, List, [], ◌∷◌, take, drop, refl, sym, subst, ◌∙◌, ap, arith, slice_index, nat_tests, drop-drop, take-take, get_or-take, get_or-drop, big_number, big_from-take, PageSize, entry_bytes, RecordLine, lines_from, wrong_line, count_of, lined_gate, gate_if, Wrong, same_number_at, fault_none, ForSome, bytes_at, noted, read_is, Option, IsSome, IfSome, unwrap_or, ◌&&◌, nat_le, nat_lt, ◌==◌, length, ◌%◌, ◌^◌, ◌++◌, length-append, fold, append-nil, append_assoc, Area, Gate, Closed, Sound, BankContent, Holds, Faulty, gate_at, holds_from, preceded, sound_is, AreRead, parsed_lines, record_bytes, head_fault, None}
+use Rattle.store_format.specs.Bank.{held_number}
 use Rattle.std.proofs.lemmas.List.Sums.{fold-append}
 
 pub is_low : (bound least line : ℕ) → line < least → nat_le least line && nat_lt line bound ≡ false
@@ -10,7 +10,7 @@ pub is_high : (bound least line : ℕ) → bound ≤ line → nat_le least line 
 is_high bound least line high = grind (arith, nat_tests)
 
 -- the count and the number of a head that was read
-head_read : (held head : List ℕ) (gate count number : ℕ) → head ≡ bytes_at held (gate + 1) 10 → count ≡ big_number 2 head → number ≡ big_number 8 (take 8 (drop 2 head)) → (count_of (drop gate held) ≡ count) × (number_of (drop gate held) ≡ number)
+head_read : (held head : List ℕ) (gate count number : ℕ) → head ≡ bytes_at held (gate + 1) 10 → count ≡ big_number 2 head → number ≡ big_number 8 (take 8 (drop 2 head)) → (count_of (drop gate held) ≡ count) × (held_number (drop gate held) ≡ number)
 head_read held head gate count number read counted numbered =
     let bytes = drop gate held in
     let behind : drop 1 bytes ≡ drop (gate + 1) held = drop-drop 1 gate held in
@@ -37,10 +37,10 @@ gate_read page held head bound end due gate count number read counted numbered d
     let bytes = drop gate held in
     let is = head_read held head gate count number read counted numbered in
     let count_is : count_of bytes ≡ count = is.0 in
-    let number_is : number_of bytes ≡ due = is.1 ∙ due_is in
+    let number_is : held_number bytes ≡ due = is.1 ∙ due_is in
     let sized : record_bytes page (count_of bytes) ≡ 11 + entry_bytes page * count = ap (record_bytes page) count_is in
     let none : head_fault page end due gate bytes ≡ None = fault_none page end due gate bytes number_is (omega (arith, sized, fits)) in
-    let lines : lines_of page gate bytes ≡ lines_from page count (gate + 11) (drop (gate + 11) held) =
+    let lines : parsed_lines page gate bytes ≡ lines_from page count (gate + 11) (drop (gate + 11) held) =
     ap (λ (n : ℕ). lines_from page n (gate + 11) (drop 11 bytes)) count_is ∙ ap (λ (these : List ℕ). lines_from page count (gate + 11) these) (drop-drop 11 gate held) in
     let next : gate + record_bytes page (count_of bytes) ≡ gate + 11 + entry_bytes page * count = omega (arith, sized) in
     cc (shown, none, lines, next)
@@ -64,14 +64,14 @@ abbrev pub area_to : PageSize → ℕ → ℕ → Area
 area_to page bound end = record { page = page; bound = bound; end = end }
 
 -- a bank with records in front
-abbrev behind : List (List RecordLine) → Bank → Bank
+abbrev behind : List (List RecordLine) → BankContent → BankContent
 behind records (Holds gate rest) = Holds gate (records ++ rest)
 behind records (Faulty offset) = Faulty offset
 
-behind-none : (bank : Bank) → behind [] bank ≡ bank
+behind-none : (bank : BankContent) → behind [] bank ≡ bank
 behind-none bank = grind (arith, nat_tests)
 
-behind-more : (records : List (List RecordLine)) (lines : List RecordLine) (bank : Bank) → behind records (preceded lines bank) ≡ behind (records ++ lines ∷ []) bank
+behind-more : (records : List (List RecordLine)) (lines : List RecordLine) (bank : BankContent) → behind records (preceded lines bank) ≡ behind (records ++ lines ∷ []) bank
 behind-more records lines bank = grind (arith, nat_tests, append_assoc)
 
 -- the records that were read so far lead to this gate
@@ -106,10 +106,10 @@ module _ (page : PageSize) (held : List ℕ) (bound end most base from count gat
   abbrev here : gate_at held (area_to page bound end) (base + count) gate ≡ read_gate page held bound end due gate
   here = ap (λ (n : ℕ). gate_if page (slice_index held gate == 0xA5) bound end n gate (drop gate held)) (sym due_is)
 
-  abbrev whole : Bank
+  abbrev whole : BankContent
   whole = holds_from held (area_to page bound end) most base (gate_at held (area_to page bound end) base from)
 
-  abbrev left : Gate → Bank
+  abbrev left : Gate → BankContent
   left at = behind reaches.records (holds_from held (area_to page bound end) (most - count) (base + count) at)
 
   pub read_closed : (new : List (Option ℕ)) → read_gate page held bound end due gate ≡ Closed gate → new ≡ now → AreRead gate count old new whole

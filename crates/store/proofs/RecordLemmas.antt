@@ -1,10 +1,10 @@
 -- The records of a bank, each at its place.
-use Rattle.store.proofs.Common.{drop-drop, big_number, line_bytes, PageSize, entry_bytes, number_at, RecordLine, lines_from, lines_of, count_of, record_bytes, wrong_line, Area, Holds, HoldsFrom, gate_at, IsSound, follows, has_bank, KeptBank, place_of, area_bytes, IsRecordAt, IsCounted, IsCountedAt, IsLine, IsLineOf, Record, None, ◌≡◌, ℕ, zero, suc, ◌+◌, ◌*◌, ◌<◌, List, [], ◌∷◌, ◌++◌, length, take, drop, refl, sym, subst, ◌∙◌, ap, arith, Some, slice_get, nat_tests}
+use Rattle.store.proofs.Common.{drop-drop, big_number, line_bytes, PageSize, entry_bytes, number_at, RecordLine, lines_from, parsed_lines, count_of, record_bytes, wrong_line, Area, Holds, HoldsFrom, gate_at, IsSound, follows, has_bank, BankView, bank_place, area_bytes, IsRecordAt, IsCounted, IsCountedAt, BeginsWithLine, IsLineOf, Record, None, ◌≡◌, ℕ, zero, suc, ◌+◌, ◌*◌, ◌<◌, List, [], ◌∷◌, ◌++◌, length, take, drop, refl, sym, subst, ◌∙◌, ap, arith, Some, slice_get, nat_tests}
 use Rattle.store.proofs.AppendLemmas.{length-lines_from}
 
 -- where a record with these lines stands, in an area with this end, of a store with so many lines
 pub record StandsAt (page : PageSize) (image : List ℕ) (bound end at : ℕ) (lines : List RecordLine) : Type 0 where
-  pub lines_are : lines ≡ lines_of page at (drop at image)
+  pub lines_are : lines ≡ parsed_lines page at (drop at image)
   pub count : count_of (drop at image) ≡ length lines
   pub fits : at + record_bytes page (length lines) < end
   pub in_order : wrong_line bound 0 lines ≡ None
@@ -26,9 +26,9 @@ found_at image area number from gate (first ∷ before) lines after holds =
     subst (λ (n : ℕ). StandsAt area.page image area.bound area.end n lines) place (found_at image area (number + 1) here.next gate before lines after here.rest)
 
 -- a record of a bank that was read
-pub stands_there : (held : List ℕ) (bank : KeptBank) (place : ℕ) (at : IsRecordAt held bank place) → StandsAt bank.page held (length bank.newest) (place_of bank.which bank.bank_bytes + 8 + bank.bank_bytes) (place_of bank.which bank.bank_bytes + 8 + place) at.lines
+pub stands_there : (held : List ℕ) (bank : BankView) (place : ℕ) (at : IsRecordAt held bank place) → StandsAt bank.page held (length bank.newest) (bank_place bank.which bank.bank_bytes + 8 + bank.bank_bytes) (bank_place bank.which bank.bank_bytes + 8 + place) at.lines
 stands_there held bank place at =
-    let start = place_of bank.which bank.bank_bytes in
+    let start = bank_place bank.which bank.bank_bytes in
     let number = number_at held start 8 in
     let area : Area = record { page = bank.page; bound = length bank.newest; end = start + 8 + bank.bank_bytes } in
     let found = found_at held area number (start + 8) bank.gate at.before at.lines at.after (has_bank held bank.page (length bank.newest) start bank.bank_bytes _ (at.read.holds ∙ ap (Holds bank.gate) at.are)) in
@@ -46,7 +46,7 @@ line_there page (suc count) at bytes zero below =
     ∙ ap (λ (n : ℕ). Some (record { line = big_number 4 (drop n bytes); at = at + entry_bytes page * 0; bytes = take (line_bytes page) (drop 4 (drop n bytes)) })) none
 line_there page (suc count) at bytes (suc index) below = grind (arith, nat_tests, line_there page count (at + entry_bytes page) (drop (entry_bytes page) bytes) index, drop-drop)
 
-module _ (held : List ℕ) (bank : KeptBank) (place area : ℕ) (at : IsRecordAt held bank place) (area_is : area ≡ place_of bank.which bank.bank_bytes + 8) where
+module _ (held : List ℕ) (bank : BankView) (place area : ℕ) (at : IsRecordAt held bank place) (area_is : area ≡ bank_place bank.which bank.bank_bytes + 8) where
   there : StandsAt bank.page held (length bank.newest) (area + bank.bank_bytes) (area + place) at.lines
   there = subst (λ (n : ℕ). StandsAt bank.page held (length bank.newest) (n + bank.bank_bytes) (n + place) at.lines) (sym area_is) (stands_there held bank place at)
 
@@ -59,7 +59,7 @@ module _ (held : List ℕ) (bank : KeptBank) (place area : ℕ) (at : IsRecordAt
   counted found read = grind (arith, nat_tests, there, number-there)
 
   -- and a line that was read is the record's
-  pub lined : (index line : ℕ) (into : List ℕ) → index < length at.lines → IsLine bank.page (area + place + 11 + entry_bytes bank.page * index) into held line → IsLineOf at.lines index line into
+  pub lined : (index line : ℕ) (into : List ℕ) → index < length at.lines → BeginsWithLine bank.page (area + place + 11 + entry_bytes bank.page * index) into held line → IsLineOf at.lines index line into
   lined index line into below is =
       let bytes : drop (entry_bytes bank.page * index) (drop 11 (drop (area + place) held)) ≡ drop (area + place + 11 + entry_bytes bank.page * index) held =
       ap (λ (these : List ℕ). drop (entry_bytes bank.page * index) these) (drop-drop 11 (area + place) held) ∙ drop-drop (entry_bytes bank.page * index) (area + place + 11) held in

@@ -1,14 +1,14 @@
 -- What a store shows of bytes, and what these stand for.
-use Rattle.store.proofs.Common.{◌≡◌, ℕ, ◌+◌, ◌%◌, ◌^◌, ◌≤◌, List, length, take, sym, ◌∙◌, ap, subst, arith, IsSome, Option, None, fold, line_count, Header, number_at, header_of, total, PageSize, Stands, Damaged, stands, standing_if, standing_by, HasHeader, IsStore, chosen, laid, home_of, stands_is, not_less, OnlyAsks, FewerLater, held_of, IsChosen, HoldsCommitted, ReopenFault, IsStoreOpenFault, IsStoreReopenFault, KeptStore, Fits, with_begun, Shows, IsStoreWith, IsReopened, TracksStore, ShownStands, nat_tests, bank_in, RecordLine, Holds, Faulty, base_of, bank_of, IsSure, HoldsRecords, store_bytes, ⊎_elim, [], ◌∷◌, ◌++◌, refl, unwrap_or, other, emptied, HoldsOneOf}
-use Rattle.store.specs.KeptStore.{number_of}
+use Rattle.store.proofs.Common.{◌≡◌, ℕ, ◌+◌, ◌%◌, ◌^◌, ◌≤◌, List, length, take, sym, ◌∙◌, ap, subst, arith, IsSome, Option, None, fold, line_count, Header, number_at, header_of, total, PageSize, Stands, Damaged, stands, standing_if, standing_by, HasHeader, IsStore, chosen, laid, home_of, stands_is, not_less, OnlyAsks, FewerLater, held_of, IsChosen, HoldsCommitted, ReopenFault, IsStoreOpenFault, IsStoreReopenFault, StoreView, Fits, with_begun, Shows, IsStoreWith, IsFoundAgain, TracksStore, ShownStands, nat_tests, bank_in, RecordLine, Holds, Faulty, base_of, bank_of, IsSure, HoldsRecords, store_bytes, ⊎_elim, [], ◌∷◌, ◌++◌, refl, unwrap_or, other, emptied, HoldsOneOf}
+use Rattle.store.specs.KeptStore.{store_number}
 use Rattle.store_format.specs.declared.header.Which.{Which}
 use Rattle.outside.specs.declared.world.Outside.{Ghosts}
-use Rattle.store.specs.Kept.{KeptBank, area_end, end_of, begun_of, number_of as number_in}
+use Rattle.store.specs.Kept.{BankView, area_end, end_of, begun_of, bank_number as number_in}
 use Rattle.store.proofs.AppendLemmas.{place_is}
-use Rattle.store.specs.declared.fault.OpenFault.{OpenFault}
+use Rattle.store.specs.declared.open_fault.OpenFault.{OpenFault}
 use Rattle.store.specs.Opened.{IsBankOpenFault, IsBankReopenFault}
-use Rattle.store.specs.declared.fault.ReopenFault.TheVariants as reopening
-use Rattle.store.specs.declared.fault.OpenFault.TheVariants as opening
+use Rattle.store.specs.declared.open_fault.ReopenFault.TheVariants as reopening
+use Rattle.store.specs.declared.open_fault.OpenFault.TheVariants as opening
 use Rattle.store.specs.Tracks as journal
 
 -- the bank of a header is the one that such a bank's size says
@@ -16,7 +16,7 @@ pub bank_is : (held : List ℕ) (header : Header) (which : Which) (page : PageSi
 bank_is held header which page bytes bound sized same lines = cc (sized, same, lines, place_is header which bytes same)
 
 -- what a store shows is a store with the records of its bank
-pub shown_store : (held : List ℕ) (store : KeptStore) (shows : Shows held store) → IsStore held store.header store.bank.which store.bank.base store.bank.gate shows.read.records
+pub shown_store : (held : List ℕ) (store : StoreView) (shows : Shows held store) → IsStore held store.header store.bank.which store.bank.base store.bank.gate shows.read.records
 shown_store held store shows = record {
   sound = shows.header.sound;
   said = shows.header.said;
@@ -34,7 +34,7 @@ shown_stands held store shows = (
 )
 
 -- a store that is tracked has a bank that is
-abbrev pub bank_tracked : {W : Type 0} (G : Ghosts W) (store : KeptStore) (outside : W) → TracksStore G store outside → journal.TracksBank G store.bank outside
+abbrev pub bank_tracked : {W : Type 0} (G : Ghosts W) (store : StoreView) (outside : W) → TracksStore G store outside → journal.TracksBank G store.bank outside
 bank_tracked G store outside tracks = record {
   sure = tracks.sure;
   header = store.header;
@@ -48,11 +48,11 @@ bank_tracked G store outside tracks = record {
 }
 
 -- a store whose bank is as the header says is as long as the bank thinks
-pub total_is : (header : Header) (bank : KeptBank) → Fits header bank → total header ≡ store_bytes bank
+pub total_is : (header : Header) (bank : BankView) → Fits header bank → total header ≡ store_bytes bank
 total_is header bank fits = grind (arith, nat_tests)
 
 -- a bank that is tracked under a header is the store's
-pub store_tracked : {W : Type 0} (G : Ghosts W) (header : Header) (bank : KeptBank) (outside : W) → Fits header bank → header_of (take 128 (held_of G outside)) ≡ header → journal.TracksBank G bank outside
+pub store_tracked : {W : Type 0} (G : Ghosts W) (header : Header) (bank : BankView) (outside : W) → Fits header bank → header_of (take 128 (held_of G outside)) ≡ header → journal.TracksBank G bank outside
     → TracksStore G (record { header = header; bank = bank }) outside
 store_tracked G header bank outside fits said tracks =
     let same : tracks.header ≡ header = sym tracks.store.said ∙ said in
@@ -96,7 +96,7 @@ opening_fault G old mid new header (opening.Damaged offset) asks has is =
 opening_fault G old mid new header _ asks has is = grind (arith, nat_tests)
 
 -- the same of a store that is reopened
-pub reopening_fault : {W : Type 0} (G : Ghosts W) (old mid new : W) (header : Header) (bank : KeptBank) (fault : ReopenFault) → Fits header bank → OnlyAsks G old mid → IsBankReopenFault G mid new (chosen (held_of G mid)) bank fault → IsStoreReopenFault G old new header fault
+pub reopening_fault : {W : Type 0} (G : Ghosts W) (old mid new : W) (header : Header) (bank : BankView) (fault : ReopenFault) → Fits header bank → OnlyAsks G old mid → IsBankReopenFault G mid new (chosen (held_of G mid)) bank fault → IsStoreReopenFault G old new header fault
 reopening_fault G old mid new header bank fault fits asks is = grind (arith, nat_tests, bank_is)
 
 -- a store that is intact under a header has no fault in its bank
@@ -109,7 +109,7 @@ intact_fault G old new header (reopening.Damaged offset) told intact is =
 intact_fault G old new header reopening.DiskFault told intact is = refl
 
 -- a chosen bank of the bytes of a store makes that store
-pub shows_read : (held : List ℕ) (header : Header) (bank : KeptBank) → HasHeader held header → Fits header bank → IsChosen held bank → Shows held (record { header = header; bank = bank })
+pub shows_read : (held : List ℕ) (header : Header) (bank : BankView) → HasHeader held header → Fits header bank → IsChosen held bank → Shows held (record { header = header; bank = bank })
 shows_read held header bank has fits read = record { header = has; chosen_is = read.chosen_is; read = read.read; fits = fits }
 
 -- bytes that hold records under a header are intact
@@ -120,12 +120,12 @@ records_intact header which base records held is = record { which = which; base 
 pub end_inside : (header : Header) (which : Which) (bytes : ℕ) → header.bank_bytes ≡ bytes → end_of which bytes ≤ total header
 end_inside header which bytes same = grind (arith, nat_tests)
 
-pub bank_inside : (header : Header) (bank those : KeptBank) → those ≡ bank → Fits header bank → area_end those ≤ total header
-bank_inside header bank those same fits = subst (λ (that : KeptBank). area_end that ≤ total header) (sym same) (end_inside header bank.which bank.bank_bytes fits.bank_bytes)
+pub bank_inside : (header : Header) (bank those : BankView) → those ≡ bank → Fits header bank → area_end those ≤ total header
+bank_inside header bank those same fits = subst (λ (that : BankView). area_end that ≤ total header) (sym same) (end_inside header bank.which bank.bank_bytes fits.bank_bytes)
 
 -- what a store that was reopened says of the bytes, whatever their header is
-pub reopened_holds : (held : List ℕ) (header : Header) (store : KeptStore) → store.header ≡ header → IsReopened held store
-    → (gate : ℕ) × (records : List (List RecordLine)) × (bank_of held header (chosen held) ≡ Holds gate records) × (number_of store ≡ (base_of held header (chosen held) + length records) % 2 ^ 64)
+pub reopened_holds : (held : List ℕ) (header : Header) (store : StoreView) → store.header ≡ header → IsFoundAgain held store
+    → (gate : ℕ) × (records : List (List RecordLine)) × (bank_of held header (chosen held) ≡ Holds gate records) × (store_number store ≡ (base_of held header (chosen held) + length records) % 2 ^ 64)
 reopened_holds held header store same is =
     let bank = store.bank in
     let fits = is.fits in
@@ -133,7 +133,7 @@ reopened_holds held header store same is =
     ap (base_of held store.header) is.chosen_is ∙ ap (λ (n : ℕ). number_at held n 8) (place_is store.header bank.which bank.bank_bytes fits.bank_bytes) ∙ is.read.base in
     subst
     (λ (that : Header). (gate : ℕ) × (records : List (List RecordLine)) × (bank_of held that (chosen held) ≡ Holds gate records)
-    × (number_of store ≡ (base_of held that (chosen held) + length records) % 2 ^ 64))
+    × (store_number store ≡ (base_of held that (chosen held) + length records) % 2 ^ 64))
     same (
       bank.gate,
       is.read.records,
@@ -147,10 +147,10 @@ reopened_holds held header store same is =
 one_intact : (header : Header) (which : Which) (base : ℕ) (records : List (List RecordLine)) (lines : List RecordLine) (held : List ℕ) → HoldsOneOf header which base records lines held → IsStoreWith header held
 one_intact header which base records lines held one = ⊎_elim (λ before. records_intact header which base records held before) (λ after. records_intact header which base (records ++ lines ∷ []) held after) one
 
-pub committed_intact : (header : Header) (bank : KeptBank) (records : List (List RecordLine)) (held : List ℕ) → HoldsCommitted header bank records held → IsStoreWith header held
+pub committed_intact : (header : Header) (bank : BankView) (records : List (List RecordLine)) (held : List ℕ) → HoldsCommitted header bank records held → IsStoreWith header held
 committed_intact header bank records held one =
     ⊎_elim (λ here. one_intact header bank.which bank.base records (begun_of bank) held here) (λ there. one_intact header (other bank.which) (number_in bank) [] (begun_of (emptied bank)) held there) one
 
 -- a store with a record begun shows what it did
-pub shows_begun : (store : KeptStore) (lines : List RecordLine) (held : List ℕ) → Shows held store → Shows held (with_begun store lines)
+pub shows_begun : (store : StoreView) (lines : List RecordLine) (held : List ℕ) → Shows held store → Shows held (with_begun store lines)
 shows_begun store lines held shows = grind (arith, nat_tests)

@@ -1,5 +1,5 @@
 -- Lines that are placed anew.
-use Rattle.store.proofs.Common.{◌≡◌, ℕ, zero, suc, ◌+◌, ◌*◌, List, [], ◌∷◌, length, take, drop, refl, ◌∙◌, ap, arith, replicate, option_map, All-replicate, big_number, overlaid, PageSize, Which, line_bytes, entry_bytes, in_order, RecordLine, lines_from, wrong_line, Standing, laid, one_more, Inside, buffered, kept_of, KeptBank, place_of, AreWithin, placed, turned, Option, None, IfSome, ◌%◌, ◌^◌, ◌≤◌, nat_tests}
+use Rattle.store.proofs.Common.{◌≡◌, ℕ, zero, suc, ◌+◌, ◌*◌, List, [], ◌∷◌, length, take, drop, refl, ◌∙◌, ap, arith, replicate, option_map, All-replicate, big_number, overlaid, PageSize, Which, line_bytes, entry_bytes, in_order, RecordLine, lines_from, wrong_line, Standing, laid, one_more, Inside, buffered, kept_of, BankView, bank_place, AreNewestWithin, placed, bank_turned, Option, None, IfSome, ◌%◌, ◌^◌, ◌≤◌, nat_tests}
 use Rattle.store.proofs.NoteLemmas.{first_in_order, low_of}
 
 -- the same bytes read from another offset are the lines placed there
@@ -24,7 +24,7 @@ pub one_more_placed : (page : PageSize) (at : ℕ) (lines : List RecordLine) (st
 one_more_placed page at lines standing = grind (arith, nat_tests, laid_placed)
 
 -- no place lies behind an end
-pub none_within : (page : PageSize) (end count : ℕ) → AreWithin page end (replicate count None)
+pub none_within : (page : PageSize) (end count : ℕ) → AreNewestWithin page end (replicate count None)
 none_within page end count = All-replicate (λ (place : Option ℕ). IfSome place (λ at. at + line_bytes page ≤ end)) count None tt
 
 -- the begun lines behind another gate
@@ -35,9 +35,9 @@ begun_placed begun bank at = grind (arith, nat_tests, lines_placed)
 abbrev pub turned_fields : Which → Inside → (base at : ℕ) → List (Option ℕ) → Inside
 turned_fields which bank base at newest = record { which = which; page = bank.page; bank_bytes = bank.bank_bytes; base = base; count = 0; gate = at + 8; newest = newest; begun = bank.begun; spoiled = bank.spoiled; body = bank.body }
 
-pub turned_is : (which : Which) (bank : Inside) (kept : KeptBank) (base at : ℕ) (newest : List (Option ℕ)) → kept_of bank ≡ kept → base ≡ (bank.base + bank.count) % 2 ^ 64 → at ≡ place_of which bank.bank_bytes → newest ≡ replicate (length bank.newest) None
-    → kept_of (turned_fields which bank base at newest) ≡ turned which kept
+pub turned_is : (which : Which) (bank : Inside) (kept : BankView) (base at : ℕ) (newest : List (Option ℕ)) → kept_of bank ≡ kept → base ≡ (bank.base + bank.count) % 2 ^ 64 → at ≡ bank_place which bank.bank_bytes → newest ≡ replicate (length bank.newest) None
+    → kept_of (turned_fields which bank base at newest) ≡ bank_turned which kept
 turned_is which bank kept base at newest is base_is at_is newest_is =
     rw (base_is, at_is, newest_is)
-    (ap (λ (lines : Option (List RecordLine)). record (turned which (kept_of bank)) { begun = lines })
-    (begun_placed bank.begun bank (place_of which bank.bank_bytes)) ∙ ap (turned which) is)
+    (ap (λ (lines : Option (List RecordLine)). record (bank_turned which (kept_of bank)) { begun = lines })
+    (begun_placed bank.begun bank (bank_place which bank.bank_bytes)) ∙ ap (bank_turned which) is)

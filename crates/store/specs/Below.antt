@@ -1,7 +1,7 @@
 -- The words of other crates that this crate's definitions and contracts speak with, each from its own place. Declares nothing.
 pub use Rattle.std.specs.Option.{ForSome, option_map, option_or}
 pub use Rattle.byteorder.specs.Endian.{big_bytes, big_number}
-pub use Rattle.lines.specs.Lines.{line_count}
+pub use Rattle.lines.specs.FlatLines.{line_count}
 pub use Rattle.lines.specs.Overlay.{overlaid}
 pub use Rattle.lines.specs.Segments.{line_bytes, page_bytes}
 pub use Rattle.lines.specs.declared.line_geometry.PageSize.{PageSize}
@@ -12,7 +12,7 @@ pub use Rattle.outside.specs.Moments.{LeavesStep}
 pub use Rattle.outside.specs.Runs.{AsksFor, CallsDisk, held_of, IfTold, Leaves, OnlyAsks, ReadsTold}
 pub use Rattle.outside.specs.declared.failed.Failed.{Failed}
 pub use Rattle.outside.specs.declared.world.Outside.{Ghosts}
-pub use Rattle.store_format.specs.Bank.{area_at, Bank, bank_held, bank_of, Faulty, gate_if, Holds, lines_from, record_bytes, RecordLine, wrong_line}
+pub use Rattle.store_format.specs.Bank.{area_at, BankContent, bank_held, bank_of, Faulty, gate_if, Holds, lines_from, record_bytes, RecordLine, wrong_line}
 pub use Rattle.store_format.specs.Body.{body_lines}
 pub use Rattle.store_format.specs.Header.{bank_at, entry_bytes, HasRanges, Header, header_of, home_at, number_at, total}
 pub use Rattle.store_format.specs.Read.{AsksUnless}

@@ -1,9 +1,9 @@
 -- The bank that the selector chooses.
 use Rattle.std.specs.Prelude.{◌≡◌, ℕ, List, length, Result}
 use Rattle.store.specs.Below.{A, B, chosen, Ghosts, Header, held_of, IsStore, line_count, RecordLine, Which}
-use Rattle.store.specs.declared.fault.OpenFault.{OpenFault}
-use Rattle.store.specs.declared.fault.ReopenFault.{ReopenFault}
-use Rattle.store.specs.Kept.{KeptBank}
+use Rattle.store.specs.declared.open_fault.OpenFault.{OpenFault}
+use Rattle.store.specs.declared.open_fault.ReopenFault.{ReopenFault}
+use Rattle.store.specs.Kept.{BankView}
 use Rattle.store.specs.Opened.{AsksBankAgain, AsksOfBank, IsRead}
 
 -- the other bank
@@ -17,12 +17,12 @@ selector_of A = 0
 selector_of B = 1
 
 -- The kept bank is the one that these bytes choose, and what they hold there.
-pub record IsChosen (held : List ℕ) (bank : KeptBank) : Type 0 where
+pub record IsChosen (held : List ℕ) (bank : BankView) : Type 0 where
   pub chosen_is : chosen held ≡ bank.which
   pub read : IsRead held bank
 
 -- These bytes are those of a store whose banks are like the kept one.
-pub record IsStoreLike (held : List ℕ) (bank : KeptBank) : Type 0 where
+pub record IsStoreLike (held : List ℕ) (bank : BankView) : Type 0 where
   pub header : Header
   pub which : Which
   pub base : ℕ
@@ -38,5 +38,5 @@ abbrev pub AsksOfBanks : {W T : Type 0} → Ghosts W → Header → W → W → 
 AsksOfBanks G header old new result = AsksOfBank G header (chosen (held_of G old)) old new result
 
 -- and so do those that are read again
-abbrev pub AsksBanksAgain : {W T : Type 0} → Ghosts W → KeptBank → W → W → Result T ReopenFault → Type 0
+abbrev pub AsksBanksAgain : {W T : Type 0} → Ghosts W → BankView → W → W → Result T ReopenFault → Type 0
 AsksBanksAgain G bank old new result = AsksBankAgain G (chosen (held_of G old)) bank old new result

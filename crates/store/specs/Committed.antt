@@ -5,9 +5,9 @@ use Rattle.store.specs.declared.keep.Kept.{Kept}
 use Rattle.store.specs.declared.keep.Kept.TheVariants.{Done, Unwritten, Doubt}
 use Rattle.store.specs.Appended.{CountsKept, FailedLeaves}
 use Rattle.store.specs.Held.{IsMoreBy, OnlyWrites}
-use Rattle.store.specs.Kept.{KeptBank, SameShape, area_end, needed_end, number_of, begun_of, spoilt, with_record, newest_place, end_of, line_bytes_of}
+use Rattle.store.specs.Kept.{BankView, SameShape, area_end, needed_end, bank_number, begun_of, spoilt, with_record, newest_place, end_of, line_bytes_of}
 use Rattle.store.specs.Tracks.{HoldsOneOf, IsAppended, IsEither, TracksBank, HoldsRecords}
-use Rattle.store.specs.Turned.{turned}
+use Rattle.store.specs.Turned.{bank_turned}
 use Rattle.store.specs.Chosen.{other}
 
 -- The image is as long as the old one, and has the same byte at each offset but these.
@@ -30,16 +30,16 @@ IsCheckpointOffset header which records at =
     IsHomeOffset header records at ⊎ (((bank_at header (other which) ≤ at) × (at < bank_at header (other which) + 9)) ⊎ (at ≡ 128))
 
 -- it lies in the begun record or a gate beside it, in the bank that the record is added to, or, where that is the other bank, it is one of the checkpoint in front
-abbrev pub IsCommitOffset : Header → (there bank : KeptBank) → List (List RecordLine) → ℕ → Type 0
+abbrev pub IsCommitOffset : Header → (there bank : BankView) → List (List RecordLine) → ℕ → Type 0
 IsCommitOffset header there bank records at =
     ((there.gate ≤ at) × (at < needed_end there)) ⊎ ((there.which ≡ other bank.which) × IsCheckpointOffset header bank.which records at)
 
 -- where the home of a line is, in a store whose banks are like this one
-abbrev pub home_place : KeptBank → ℕ → ℕ
+abbrev pub home_place : BankView → ℕ → ℕ
 home_place bank line = end_of B bank.bank_bytes + line_bytes_of bank * line
 
 -- how many bytes a store has whose banks are like this one
-abbrev pub store_bytes : KeptBank → ℕ
+abbrev pub store_bytes : BankView → ℕ
 store_bytes bank = home_place bank (length bank.newest)
 
 -- the bytes of a line's home
@@ -64,60 +64,60 @@ pub record CopiesLine {W : Type 0} (G : Ghosts W) {T : Type 0} (bytes : ℕ) (fr
   pub cause : FailsOnlyCounted (G.disk_faults old) (G.disk_faults new) result
 
 -- the newest bytes of a line are copied to its home, where the bank holds it
-abbrev pub CopiesNewest : {W : Type 0} → Ghosts W → {T : Type 0} → KeptBank → ℕ → W → W → Result T Failed → Type 0
+abbrev pub CopiesNewest : {W : Type 0} → Ghosts W → {T : Type 0} → BankView → ℕ → W → W → Result T Failed → Type 0
 CopiesNewest G bank line old new result = CopiesLine G (line_bytes_of bank) (slice_index_or bank.newest line None) (home_place bank line) old new result
 
 -- The image is the one held but for the home lines of lines that records have.
-pub record IsCovered (header : Header) (records : List (List RecordLine)) (held image : List ℕ) : Type 0 where
+pub record IsHomeCovered (header : Header) (records : List (List RecordLine)) (held image : List ℕ) : Type 0 where
   pub front : take (home_at header 0) image ≡ take (home_at header 0) held
   pub others : (line : ℕ) → line < line_count header.directory → newest_place line records ≡ None → home_line header image line ≡ home_line header held line
   pub apart : IsSameBut (IsHomeOffset header records) held image
 
 -- And up to a line each line that they have is at home.
 pub record IsHomed (header : Header) (records : List (List RecordLine)) (held : List ℕ) (upto : ℕ) (image : List ℕ) : Type 0 where
-  pub covered : IsCovered header records held image
+  pub covered : IsHomeCovered header records held image
   pub homed : (line place : ℕ) → line < upto → line < line_count header.directory → newest_place line records ≡ Some place → home_line header image line ≡ bytes_at held place (line_bytes header.directory.page)
 
 -- The newest bytes of all lines of a bank are written home. Of a bank that is tracked: a crash leaves all but these homes.
-pub record WritesHome {W : Type 0} (G : Ghosts W) {T : Type 0} (bank : KeptBank) (old new : W) (result : Result T Failed) : Type 0 where
+pub record WritesHome {W : Type 0} (G : Ghosts W) {T : Type 0} (bank : BankView) (old new : W) (result : Result T Failed) : Type 0 where
   pub only : OnlyWrites G old new
-  pub crash : (tracks : TracksBank G bank old) → Leaves G (λ image seen. IsCovered tracks.header tracks.records (held_of G old) image) old new
+  pub crash : (tracks : TracksBank G bank old) → Leaves G (λ image seen. IsHomeCovered tracks.header tracks.records (held_of G old) image) old new
   pub done : OnOk result ((tracks : TracksBank G bank old) → IsHomed tracks.header tracks.records (held_of G old) (length bank.newest) (held_of G new))
   pub cause : FailsOnlyCounted (G.disk_faults old) (G.disk_faults new) result
 
 -- The image stands for what was held, by its old bank or by the other one without records, and is what was held at each offset that a checkpoint doesn't write.
-pub record IsSame (header : Header) (bank : KeptBank) (records : List (List RecordLine)) (held image : List ℕ) : Type 0 where
+pub record IsSame (header : Header) (bank : BankView) (records : List (List RecordLine)) (held image : List ℕ) : Type 0 where
   pub stood : stands image ≡ stands held
-  pub one_of : HoldsRecords header bank.which bank.base records image ⊎ HoldsRecords header (other bank.which) (number_of bank) [] image
+  pub one_of : HoldsRecords header bank.which bank.base records image ⊎ HoldsRecords header (other bank.which) (bank_number bank) [] image
   pub apart : IsSameBut (IsCheckpointOffset header bank.which records) held image
 
 -- The other bank is chosen, has the number as its base and no records; all is sure and stands for what stood.
-pub record IsMoved {W : Type 0} (G : Ghosts W) (header : Header) (bank : KeptBank) (old new : W) : Type 0 where
+pub record IsMoved {W : Type 0} (G : Ghosts W) (header : Header) (bank : BankView) (old new : W) : Type 0 where
   pub sure : IsSure G new
   pub stood : stands (held_of G new) ≡ stands (held_of G old)
-  pub store : IsStore (held_of G new) header (other bank.which) (number_of bank) (area_at header (other bank.which)) []
+  pub store : IsStore (held_of G new) header (other bank.which) (bank_number bank) (area_at header (other bank.which)) []
 
 -- What a bank holds is moved home, and the other bank chosen. Of a bank that is tracked: whenever a crash comes, it leaves what stood.
-pub record Moves {W : Type 0} (G : Ghosts W) {T : Type 0} (bank : KeptBank) (old new : W) (result : Result T Failed) : Type 0 where
+pub record Moves {W : Type 0} (G : Ghosts W) {T : Type 0} (bank : BankView) (old new : W) (result : Result T Failed) : Type 0 where
   pub only : OnlyWrites G old new
   pub crash : (tracks : TracksBank G bank old) → Leaves G (λ image seen. IsSame tracks.header bank tracks.records (held_of G old) image) old new
   pub done : OnOk result ((tracks : TracksBank G bank old) → IsMoved G tracks.header bank old new)
   pub cause : FailsOnlyCounted (G.disk_faults old) (G.disk_faults new) result
 
 -- what is kept after a checkpoint: the other bank, or where it failed this one, which is to be reopened
-abbrev pub bank_checkpointed : Result (Unit {0}) Failed → KeptBank → KeptBank
-bank_checkpointed (Ok done) bank = turned (other bank.which) bank
+abbrev pub bank_checkpointed : Result (Unit {0}) Failed → BankView → BankView
+bank_checkpointed (Ok done) bank = bank_turned (other bank.which) bank
 bank_checkpointed (Err failed) bank = spoilt bank
 
 -- The bank turned to is tracked, and the bytes stand for what they did. Each crash image of the moment has the number as its base, and no record.
-pub record IsCheckpointed {W : Type 0} (G : Ghosts W) (old_bank bank : KeptBank) (old new : W) : Type 0 where
+pub record IsCheckpointed {W : Type 0} (G : Ghosts W) (old_bank bank : BankView) (old new : W) : Type 0 where
   pub tracks : TracksBank G bank new
   pub stood : stands (held_of G new) ≡ stands (held_of G old)
   pub header : header_of (take 128 (held_of G new)) ≡ header_of (take 128 (held_of G old))
-  pub emptied : Leaves G (λ image seen. HoldsRecords (header_of (take 128 (held_of G old))) (other old_bank.which) (number_of old_bank) [] image) new new
+  pub emptied : Leaves G (λ image seen. HoldsRecords (header_of (take 128 (held_of G old))) (other old_bank.which) (bank_number old_bank) [] image) new new
 
 -- What a checkpoint does: the sizes stay, and a begun record fits behind it. Of banks that are tracked: whenever a crash comes, it leaves what stood, by one bank or the other.
-pub record Checkpoints {W : Type 0} (G : Ghosts W) (old new : KeptBank) (before after : W) (result : Result (Unit {0}) Failed) : Type 0 where
+pub record Checkpoints {W : Type 0} (G : Ghosts W) (old new : BankView) (before after : W) (result : Result (Unit {0}) Failed) : Type 0 where
   pub only : OnlyWrites G before after
   pub shape : SameShape old new
   pub kept : new ≡ bank_checkpointed result old
@@ -128,39 +128,39 @@ pub record Checkpoints {W : Type 0} (G : Ghosts W) (old new : KeptBank) (before 
   pub done : OnOk result (TracksBank G old before → IsCheckpointed G old new before after)
 
 -- the bank after a checkpoint
-abbrev pub emptied : KeptBank → KeptBank
-emptied bank = turned (other bank.which) bank
+abbrev pub emptied : BankView → BankView
+emptied bank = bank_turned (other bank.which) bank
 
 -- the bank that a record is added to: this one, or where it doesn't fit the one after a checkpoint
-abbrev pub roomy : KeptBank → KeptBank
+abbrev pub roomy : BankView → BankView
 roomy bank = if nat_lt (area_end bank) (needed_end bank) then emptied bank else bank
 
 -- the number after a commit
-abbrev pub number_after : Kept → ℕ → ℕ
-number_after Done number = (number + 1) % 2 ^ 64
-number_after Unwritten number = number
-number_after Doubt number = number
+abbrev pub number_by_answer : Kept → ℕ → ℕ
+number_by_answer Done number = (number + 1) % 2 ^ 64
+number_by_answer Unwritten number = number
+number_by_answer Doubt number = number
 
 -- What is kept after a commit: the record is the bank's, or the bank is to be reopened, there or where the checkpoint in front failed.
-abbrev pub IsKeptAfter : Kept → KeptBank → KeptBank → KeptBank → Type 0
+abbrev pub IsKeptAfter : Kept → BankView → BankView → BankView → Type 0
 IsKeptAfter Done there old new = new ≡ with_record there
 IsKeptAfter Unwritten there old new = (new ≡ spoilt there) ⊎ (new ≡ spoilt old)
 IsKeptAfter Doubt there old new = new ≡ spoilt there
 
 -- the bytes are a store with this header, whose bank holds what the kept one did, with the begun record or without; or the other bank is chosen, which holds nothing or that record
-abbrev pub HoldsCommitted : Header → KeptBank → List (List RecordLine) → List ℕ → Type 0
+abbrev pub HoldsCommitted : Header → BankView → List (List RecordLine) → List ℕ → Type 0
 HoldsCommitted header bank records held =
-    HoldsOneOf header bank.which bank.base records (begun_of bank) held ⊎ HoldsOneOf header (other bank.which) (number_of bank) [] (begun_of (emptied bank)) held
+    HoldsOneOf header bank.which bank.base records (begun_of bank) held ⊎ HoldsOneOf header (other bank.which) (bank_number bank) [] (begun_of (emptied bank)) held
 
 -- What a commit leaves of the bytes: those held are such ones, and they and each image that a crash leaves are those of before at each offset that it doesn't write.
-pub record LeavesCommitted {W : Type 0} (G : Ghosts W) (header : Header) (there bank : KeptBank) (records : List (List RecordLine)) (before after : W) : Type 0 where
+pub record LeavesCommitted {W : Type 0} (G : Ghosts W) (header : Header) (there bank : BankView) (records : List (List RecordLine)) (before after : W) : Type 0 where
   pub held : HoldsCommitted header bank records (held_of G after)
   pub stays : IsSameBut (IsCommitOffset header there bank records) (held_of G before) (held_of G after)
   pub apart : Leaves G (λ image seen. IsSameBut (IsCommitOffset header there bank records) (held_of G before) image) before after
 
 -- What a commit of the begun record does, to this bank or behind a checkpoint, where it is answered so: it only asks and writes, the sizes stay, the disk's count
 -- is told, and a record that is kept took at least two writes. Of banks that are tracked: whenever a crash comes, it leaves what stood, or that with the record.
-pub record Commits {W : Type 0} (G : Ghosts W) (there old new : KeptBank) (before after : W) (answer : Kept) : Type 0 where
+pub record Commits {W : Type 0} (G : Ghosts W) (there old new : BankView) (before after : W) (answer : Kept) : Type 0 where
   pub only : OnlyWrites G before after
   pub shape : SameShape old new
   pub kept : IsKeptAfter answer there old new

@@ -1,10 +1,10 @@
 -- Why a store isn't opened, or opened again.
 use Rattle.std.specs.Prelude.{◌≡◌, IsSome, Result}
 use Rattle.store.specs.Below.{AsksUnless, bank_of, chosen, Damaged, Faulty, Ghosts, Header, held_of, NotAStore, Rose, stands}
-use Rattle.store.specs.declared.fault.OpenFault.{OpenFault}
-use Rattle.store.specs.declared.fault.OpenFault.TheVariants as opening
-use Rattle.store.specs.declared.fault.ReopenFault.{ReopenFault}
-use Rattle.store.specs.declared.fault.ReopenFault.TheVariants as reopening
+use Rattle.store.specs.declared.open_fault.OpenFault.{OpenFault}
+use Rattle.store.specs.declared.open_fault.OpenFault.TheVariants as opening
+use Rattle.store.specs.declared.open_fault.ReopenFault.{ReopenFault}
+use Rattle.store.specs.declared.open_fault.ReopenFault.TheVariants as reopening
 
 -- bytes that are told have this fault, or the disk's count rose; memory is free
 abbrev pub IsStoreOpenFault : {W : Type 0} → Ghosts W → W → W → OpenFault → Type 0

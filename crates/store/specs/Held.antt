@@ -42,7 +42,7 @@ abbrev pub HasBody : ℕ → List ℕ → List ℕ → Type 0
 HasBody gate body image = take (length body) (drop (gate + 1) image) ≡ body
 
 -- the bytes are sure, with this gate shut
-pub record IsShut {W : Type 0} (G : Ghosts W) (gate : ℕ) (outside : W) : Type 0 where
+pub record IsGateShut {W : Type 0} (G : Ghosts W) (gate : ℕ) (outside : W) : Type 0 where
   pub sure : IsSure G outside
   pub shut : is_open gate (held_of G outside) ≡ false
 
@@ -54,7 +54,7 @@ pub record IsSafe (gate : ℕ) (body old image : List ℕ) : Type 0 where
   pub whole : is_open gate image ≡ true → HasBody gate body image
 
 -- the gate is open on the disk, with the body behind it
-pub record IsKept {W : Type 0} (G : Ghosts W) (gate : ℕ) (body : List ℕ) (old new : W) : Type 0 where
+pub record IsGateOpen {W : Type 0} (G : Ghosts W) (gate : ℕ) (body : List ℕ) (old new : W) : Type 0 where
   pub sure : IsSure G new
   pub safe : IsSafe gate body (held_of G old) (held_of G new)
   pub shown : is_open gate (held_of G new) ≡ true

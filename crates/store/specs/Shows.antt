@@ -5,23 +5,23 @@ use Rattle.store.specs.Below.{chosen, Damaged, Failed, FailsOnlyCounted, Ghosts,
 use Rattle.store.specs.declared.keep.Kept.{Kept}
 use Rattle.store.specs.declared.keep.Kept.TheVariants.{Done}
 use Rattle.store.specs.Appended.{CountsKept, FailedLeaves}
-use Rattle.store.specs.Committed.{IsKeptAfter, IsSame, LeavesCommitted, bank_checkpointed, number_after, roomy}
+use Rattle.store.specs.Committed.{IsKeptAfter, IsSame, LeavesCommitted, bank_checkpointed, number_by_answer, roomy}
 use Rattle.store.specs.Held.{HoldsAtLeast, IsMoreBy, OnlyWrites}
 use Rattle.store.specs.Kept.{begun_of}
 use Rattle.store.specs.Opened.{IsRead}
 use Rattle.store.specs.Tracks.{HoldsRecords, IsEither}
 use Rattle.store.specs.Chosen.{other}
-use Rattle.store.specs.KeptStore.{KeptStore, Fits, number_of}
+use Rattle.store.specs.KeptStore.{StoreView, Fits, store_number}
 
 -- Header, chosen bank, its base, number of records, closed gate and newest places are those of these bytes.
-pub record Shows (held : List ℕ) (store : KeptStore) : Type 0 where
+pub record Shows (held : List ℕ) (store : StoreView) : Type 0 where
   pub header : HasHeader held store.header
   pub chosen_is : chosen held ≡ store.bank.which
   pub read : IsRead held store.bank
   pub fits : Fits store.header store.bank
 
 -- The kept bank is what these bytes hold where the selector chooses, whatever their header is.
-pub record IsReopened (held : List ℕ) (store : KeptStore) : Type 0 where
+pub record IsFoundAgain (held : List ℕ) (store : StoreView) : Type 0 where
   pub chosen_is : chosen held ≡ store.bank.which
   pub read : IsRead held store.bank
   pub fits : Fits store.header store.bank
@@ -35,18 +35,18 @@ pub record IsStoreWith (header : Header) (held : List ℕ) : Type 0 where
   pub store : IsStore held header which base gate records
 
 -- The outside tells its bytes, and the store is what they show.
-pub record IsShown {W : Type 0} (G : Ghosts W) (store : KeptStore) (outside : W) : Type 0 where
+pub record IsShown {W : Type 0} (G : Ghosts W) (store : StoreView) (outside : W) : Type 0 where
   pub told : IsSome (G.held outside)
   pub shows : Shows (held_of G outside) store
 
 -- The outside is honest and tells its bytes, a crash leaves them, and the store is what they show.
-pub record TracksStore {W : Type 0} (G : Ghosts W) (store : KeptStore) (outside : W) : Type 0 where
+pub record TracksStore {W : Type 0} (G : Ghosts W) (store : StoreView) (outside : W) : Type 0 where
   pub sure : IsSure G outside
   pub shows : Shows (held_of G outside) store
 
 -- bytes that a store shows stand for its number and some bytes
 abbrev pub ShownStands : Type 0
-ShownStands = (held : List ℕ) (store : KeptStore) → Shows held store → (flat : FlatStore) × (stands held ≡ Stands (number_of store) flat)
+ShownStands = (held : List ℕ) (store : StoreView) → Shows held store → (flat : FlatStore) × (stands held ≡ Stands (store_number store) flat)
 
 -- the page of what stands
 abbrev pub page_in : Standing → ℕ → List ℕ
@@ -55,22 +55,22 @@ page_in (NotAStore offset) page = []
 page_in (Damaged offset) page = []
 
 -- bytes are that page of a store, where it is shown
-abbrev pub IsPageShown : {W : Type 0} → Ghosts W → KeptStore → W → ℕ → List ℕ → Type 0
+abbrev pub IsPageShown : {W : Type 0} → Ghosts W → StoreView → W → ℕ → List ℕ → Type 0
 IsPageShown G store outside page bytes = IsShown G store outside → bytes ≡ page_in (stands (held_of G outside)) page
 
 -- the begun record was added, and the store is tracked
-pub record IsCommitted {W : Type 0} (G : Ghosts W) (old_store store : KeptStore) (old new : W) : Type 0 where
+pub record IsCommitted {W : Type 0} (G : Ghosts W) (old_store store : StoreView) (old new : W) : Type 0 where
   pub tracks : TracksStore G store new
   pub stood : stands (held_of G new) ≡ one_more (begun_of old_store.bank) (stands (held_of G old))
 
 -- the bank turned to is empty, and the store is tracked and stands for what stood
-pub record IsEmptied {W : Type 0} (G : Ghosts W) (old_store store : KeptStore) (old new : W) : Type 0 where
+pub record IsEmptied {W : Type 0} (G : Ghosts W) (old_store store : StoreView) (old new : W) : Type 0 where
   pub tracks : TracksStore G store new
   pub stood : stands (held_of G new) ≡ stands (held_of G old)
-  pub emptied : Leaves G (λ image seen. HoldsRecords store.header (other old_store.bank.which) (number_of old_store) [] image) new new
+  pub emptied : Leaves G (λ image seen. HoldsRecords store.header (other old_store.bank.which) (store_number old_store) [] image) new new
 
 -- A store that was opened: the disk has room for it, no record is begun, and it may be used; it is what told bytes show, and tracked of an honest outside.
-pub record IsOpened {W : Type 0} (G : Ghosts W) (before after : W) (store : KeptStore) : Type 0 where
+pub record IsOpened {W : Type 0} (G : Ghosts W) (before after : W) (store : StoreView) : Type 0 where
   pub room : HoldsAtLeast G (total store.header) after
   pub shows : IsSome (G.held before) → Shows (held_of G before) store
   pub tracks : IsTrue (G.is_honest before) → IsSome (G.held before) → TracksStore G store after
@@ -78,18 +78,18 @@ pub record IsOpened {W : Type 0} (G : Ghosts W) (before after : W) (store : Kept
   pub usable : store.bank.spoiled ≡ false
 
 -- A store that was read again is what told bytes say of their chosen bank; where they have the kept header they show it, and of an honest outside it is tracked.
-pub record IsReadAgain {W : Type 0} (G : Ghosts W) (store : KeptStore) (before after : W) : Type 0 where
-  pub read : IsSome (G.held before) → IsReopened (held_of G before) store
+pub record IsReadAgain {W : Type 0} (G : Ghosts W) (store : StoreView) (before after : W) : Type 0 where
+  pub read : IsSome (G.held before) → IsFoundAgain (held_of G before) store
   pub shows : HasHeader (held_of G before) store.header → IsSome (G.held before) → Shows (held_of G before) store
   pub tracks : HasHeader (held_of G before) store.header → IsTrue (G.is_honest before) → IsSome (G.held before) → TracksStore G store after
 
 -- What a commit of the begun record does, where it is answered so, as `Commits`. Of a store that is tracked: whenever a crash comes, it leaves what stood, or that with the record.
-pub record CommitsStore {W : Type 0} (G : Ghosts W) (old new : KeptStore) (before after : W) (answer : Kept) : Type 0 where
+pub record CommitsStore {W : Type 0} (G : Ghosts W) (old new : StoreView) (before after : W) (answer : Kept) : Type 0 where
   pub only : OnlyWrites G before after
   pub header : new.header ≡ old.header
   pub usable : answer ≡ Done → new.bank.spoiled ≡ false
   pub kept : IsKeptAfter answer (roomy old.bank) old.bank new.bank
-  pub number : number_of new ≡ number_after answer (number_of old)
+  pub number : store_number new ≡ number_by_answer answer (store_number old)
   pub count : new.bank.count ≤ old.bank.count + 1
   pub counted : CountsKept G before after answer
   pub writes : answer ≡ Done → IsMoreBy 2 (G.writes before) (G.writes after)
@@ -100,11 +100,11 @@ pub record CommitsStore {W : Type 0} (G : Ghosts W) (old new : KeptStore) (befor
   pub done : answer ≡ Done → TracksStore G old before → IsCommitted G old new before after
 
 -- What a checkpoint does: it only asks and writes, and header and number stay. Of a store that is tracked: whenever a crash comes, it leaves what stood.
-pub record CheckpointsStore {W : Type 0} (G : Ghosts W) (old new : KeptStore) (before after : W) (result : Result (Unit {0}) Failed) : Type 0 where
+pub record CheckpointsStore {W : Type 0} (G : Ghosts W) (old new : StoreView) (before after : W) (result : Result (Unit {0}) Failed) : Type 0 where
   pub only : OnlyWrites G before after
   pub header : new.header ≡ old.header
   pub kept : new.bank ≡ bank_checkpointed result old.bank
-  pub number : number_of new ≡ number_of old
+  pub number : store_number new ≡ store_number old
   pub count : OnOk result (new.bank.count ≡ 0)
   pub cause : FailsOnlyCounted (G.disk_faults before) (G.disk_faults after) result
   pub crash : (tracks : TracksStore G old before) → Leaves G (λ image seen. IsSame old.header old.bank tracks.shows.read.records (held_of G before) image) before after

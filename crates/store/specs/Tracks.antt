@@ -1,10 +1,10 @@
 -- What a bank that is kept says of the bytes on the disk.
 use Rattle.std.specs.Prelude.{◌≡◌, ◌⊎◌, ℕ, List, [], ◌∷◌, ◌++◌, length, take}
 use Rattle.store.specs.Below.{Ghosts, Header, header_of, held_of, IsStore, IsSure, line_count, one_more, RecordLine, stands, Which}
-use Rattle.store.specs.Kept.{KeptBank, begun_of, AreNewest}
+use Rattle.store.specs.Kept.{BankView, begun_of, AreNewest}
 
 -- The bytes held are sure and stand, and what is kept is what they say of their chosen bank.
-pub record TracksBank {W : Type 0} (G : Ghosts W) (bank : KeptBank) (outside : W) : Type 0 where
+pub record TracksBank {W : Type 0} (G : Ghosts W) (bank : BankView) (outside : W) : Type 0 where
   pub sure : IsSure G outside
   pub header : Header
   pub records : List (List RecordLine)
@@ -29,7 +29,7 @@ abbrev pub HoldsOneOf : Header → Which → ℕ → List (List RecordLine) → 
 HoldsOneOf header which base records lines held = HoldsRecords header which base records held ⊎ HoldsRecords header which base (records ++ lines ∷ []) held
 
 -- the begun record was added, the header is the same, and the bank is tracked
-pub record IsAppended {W : Type 0} (G : Ghosts W) (old_bank bank : KeptBank) (old new : W) : Type 0 where
+pub record IsAppended {W : Type 0} (G : Ghosts W) (old_bank bank : BankView) (old new : W) : Type 0 where
   pub tracks : TracksBank G bank new
   pub stood : stands (held_of G new) ≡ one_more (begun_of old_bank) (stands (held_of G old))
   pub header : header_of (take 128 (held_of G new)) ≡ header_of (take 128 (held_of G old))

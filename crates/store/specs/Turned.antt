@@ -2,7 +2,7 @@
 use Rattle.std.specs.Prelude.{ℕ, ◌+◌, List, [], ◌∷◌, ◌++◌, length, replicate, None, Result}
 use Rattle.store.specs.Below.{big_bytes, entry_bytes, Failed, Ghosts, option_map, PageSize, RecordLine, Which}
 use Rattle.store.specs.Held.{WritesOnce}
-use Rattle.store.specs.Kept.{KeptBank, place_of, number_of}
+use Rattle.store.specs.Kept.{BankView, bank_place, bank_number}
 
 -- these lines one behind another, from an offset on
 abbrev pub placed : PageSize → ℕ → List RecordLine → List RecordLine
@@ -10,14 +10,14 @@ placed page at [] = []
 placed page at (line ∷ lines) = record line { at = at } ∷ placed page (at + entry_bytes page) lines
 
 -- the bank at this place with the number as its base, no record, and the begun record behind its gate
-abbrev pub turned : Which → KeptBank → KeptBank
-turned which bank = record bank {
+abbrev pub bank_turned : Which → BankView → BankView
+bank_turned which bank = record bank {
   which = which;
-  base = number_of bank;
+  base = bank_number bank;
   count = 0;
-  gate = place_of which bank.bank_bytes + 8;
+  gate = bank_place which bank.bank_bytes + 8;
   newest = replicate (length bank.newest) None;
-  begun = option_map (placed bank.page (place_of which bank.bank_bytes + 19)) bank.begun;
+  begun = option_map (placed bank.page (bank_place which bank.bank_bytes + 19)) bank.begun;
 }
 
 -- what a bank without records begins with: its base and a closed gate
@@ -25,5 +25,5 @@ abbrev pub head_bytes : ℕ → List ℕ
 head_bytes base = big_bytes 8 base ++ 0 ∷ []
 
 -- the head of the bank at a place is written, with the number as its base
-abbrev pub WritesHead : {W : Type 0} → Ghosts W → {T : Type 0} → KeptBank → Which → W → W → Result T Failed → Type 0
-WritesHead G bank which old new result = WritesOnce G (place_of which bank.bank_bytes) (head_bytes (number_of bank)) old new result
+abbrev pub WritesHead : {W : Type 0} → Ghosts W → {T : Type 0} → BankView → Which → W → W → Result T Failed → Type 0
+WritesHead G bank which old new result = WritesOnce G (bank_place which bank.bank_bytes) (head_bytes (bank_number bank)) old new result

@@ -1,14 +1,15 @@
+// The two banks: commits that make their own room, and the move from one to the other.
 ghost use Rattle.std.specs.Prelude.{◌≡◌, ◌≢◌, ◌+◌, ◌≤◌, ◌<◌, [], length, slice_get, Some, None, IfSome, IfOk, IfErr, OnOk, is_err, false};
 ghost use Rattle.store.specs.Below.{IfTold, line_bytes, ReadsTold, total};
-ghost use Rattle.store.specs.Kept.{KeptBank, area_end, number_of, with_line, spoilt, line_bytes_of, SameShape};
+ghost use Rattle.store.specs.Kept.{BankView, area_end, bank_number, with_line, spoilt, line_bytes_of, SameShape};
 ghost use Rattle.store.specs.Held.{HoldsAtLeast};
 ghost use Rattle.store.specs.Appended.{Appends, CanAppend, IsUsable, TakesLine};
 ghost use Rattle.store.specs.Chosen.{other, AsksBanksAgain, AsksOfBanks, IsChosen, IsStoreLike};
 ghost use Rattle.store.specs.Opened.{FailsByDisk, IsBankOf, IsStartedAgain};
 ghost use Rattle.store.specs.Committed.{emptied, roomy, Checkpoints, Commits, Moves, store_bytes};
 
-use super::fault::{OpenFault, ReopenFault};
 use super::keep::{Appended, Kept};
+use super::open_fault::{OpenFault, ReopenFault};
 use super::redo_journal::Bank;
 use crate::home::write_home;
 use crate::selector::{other_of, read_selector, write_selector};
@@ -27,9 +28,9 @@ pub struct Banks {
 
 impl Model for Banks {
     ghost use Rattle.std.specs.Prelude.{◌≡◌, vec_len};
-    ghost use Rattle.store.specs.Kept.{KeptBank, line_bytes_of};
+    ghost use Rattle.store.specs.Kept.{BankView, line_bytes_of};
 
-    ghost Value = { KeptBank };
+    ghost Value = { BankView };
 
     ghost view = { λ b. b.bank };
 
@@ -98,7 +99,7 @@ impl Banks {
 
     /// The number that the chosen bank's records lead to.
     pub fn number(&self) -> u64
-        ensures { result ≡ number_of self.now }
+        ensures { result ≡ bank_number self.now }
     {
         self.bank.number()
     }

@@ -2,7 +2,7 @@
 ghost use Rattle.std.specs.Prelude.{◌≡◌, ◌+◌, ◌<◌, ◌^◌, length, IfOk};
 ghost use Rattle.store.specs.Below.{AsksFor, entry_bytes, FailsOnlyCounted, line_bytes, OnlyAsks, ReadsTold};
 ghost use Rattle.store.specs.Held.{HoldsAtLeast};
-ghost use Rattle.store.specs.Records.{IsCountedAt, IsFound, IsLine};
+ghost use Rattle.store.specs.Records.{IsCountedAt, IsFound, BeginsWithLine};
 
 use byteorder::{BigEndian, ByteOrder};
 use lines::PageSize;
@@ -63,7 +63,7 @@ pub fn read_line<W: Outside>(
     requires whole { length into.old ≡ line_bytes page }
     requires few { at < 2 ^ 63 }
     requires room { HoldsAtLeast W.Outside (at + entry_bytes page) outside.old }
-    ensures { AsksFor W.Outside (IsLine page at into.new) outside.old outside.new result }
+    ensures { AsksFor W.Outside (BeginsWithLine page at into.new) outside.old outside.new result }
 {
     let mut number = [0; 4];
     outside.read_at(at, &mut number)?;

@@ -2,26 +2,26 @@
 //! the restart that finds what was committed (docs/MODEL.md, docs/FORMATS.md).
 #![tactic(auto)]
 
+mod bank_reading;
 mod checkpoint;
-mod fault;
 mod find;
 mod home;
 mod keep;
 mod newest_law;
-mod page;
-mod read;
-mod record;
+mod newest_lines;
+mod open_fault;
+mod opening;
+mod record_bytes;
 mod redo_journal;
 mod restart;
 mod selector;
 mod shown_law;
-mod start;
 
 pub use checkpoint::Banks;
-pub use fault::{OpenFault, ReopenFault};
 pub use find::Record;
 pub use keep::{Appended, Kept, write_once, write_sure};
 pub use newest_law::what_no_record_has_is_nowhere;
+pub use open_fault::{OpenFault, ReopenFault};
 pub use redo_journal::Bank;
 pub use restart::Durable;
 pub use shown_law::what_is_shown_stands;

@@ -1,18 +1,19 @@
+// One bank, and the records that are added to it.
 ghost use Rattle.std.specs.Prelude.{◌≡◌, ◌≢◌, ◌↔◌, ◌+◌, ◌*◌, ◌%◌, ◌≤◌, ◌<◌, ◌^◌, [], All, length, take, slice_set, slice_get, slice_range, is_some, Some, None, IsNone, IfSome, IfOk, IfErr, OnOk, is_err, false};
 ghost use Rattle.std.specs.List.{list_any};
 ghost use Rattle.store.specs.Below.{HasRanges, IfTold, ReadsTold, record_bytes, total};
-ghost use Rattle.store.specs.Kept.{KeptBank, place_of, end_of, end_with, area_end, number_of, begun_of, needed_end, with_line, spoilt, line_bytes_of, record_bytes_of, SameShape};
+ghost use Rattle.store.specs.Kept.{BankView, bank_place, end_of, end_with, area_end, bank_number, begun_of, needed_end, with_line, spoilt, line_bytes_of, record_bytes_of, SameShape};
 ghost use Rattle.store.specs.Appended.{Appends, CanAppend, IsUsable, TakesLine};
-ghost use Rattle.store.specs.Turned.{turned, WritesHead};
+ghost use Rattle.store.specs.Turned.{bank_turned, WritesHead};
 ghost use Rattle.store.specs.Held.{HoldsAtLeast};
 ghost use Rattle.store.specs.Opened.{IsRead, IsBankOf, AsksBankAgain, AsksOfBank, IsStartedAgain};
 ghost use Rattle.store.specs.Records.{ReadsRecord, ReadsLine};
 
-use crate::fault::{OpenFault, ReopenFault};
+use crate::bank_reading::{BankFound, read_bank};
 use crate::find::{Record, read_line, read_record};
 use crate::keep::{Appended, Kept, keep_body, write_once};
-use crate::read::{Found, read_bank};
-use crate::record::{fill, forget, head_of_bank, note, word};
+use crate::open_fault::{OpenFault, ReopenFault};
+use crate::record_bytes::{fill, forget, head_of_bank, note, word};
 use lines::{OwnedList, PageSize};
 use outside::{Failed, Outside};
 use std::alloc::{AllocError, Global};
@@ -37,15 +38,15 @@ pub struct Bank {
 }
 
 impl Model for Bank {
-    ghost use Rattle.store.specs.Kept.{KeptBank};
+    ghost use Rattle.store.specs.Kept.{BankView};
 
-    ghost Value = { KeptBank };
+    ghost Value = { BankView };
 
-    ghost use Rattle.store.specs.Inside.{kept_of, IsWhole};
+    ghost use Rattle.store.specs.Inside.{kept_of, IsWholeBank};
 
     ghost view = { kept_of };
 
-    ghost invariant = { IsWhole };
+    ghost invariant = { IsWholeBank };
 }
 
 impl Bank {
@@ -120,8 +121,8 @@ impl Bank {
         self.spoiled = true;
         match read_bank(outside, &mut self.newest, self.page, at, self.bank_bytes) {
             Err(Failed) => Err(ReopenFault::DiskFault),
-            Ok(Found::Faulty(offset)) => Err(ReopenFault::Damaged(offset)),
-            Ok(Found::Holds { base, gate, count }) => {
+            Ok(BankFound::Faulty(offset)) => Err(ReopenFault::Damaged(offset)),
+            Ok(BankFound::Holds { base, gate, count }) => {
                 self.base = base;
                 self.gate = gate;
                 self.count = count;
@@ -176,7 +177,7 @@ impl Bank {
 
     /// The number that the bank's records lead to.
     pub fn number(&self) -> u64
-        ensures { result ≡ number_of self.now }
+        ensures { result ≡ bank_number self.now }
     {
         number_of(self.base, self.count)
     }
@@ -272,7 +273,7 @@ impl Bank {
     /// no disk.
     pub fn turn_to(&mut self, which: Which)
         ensures shape { SameShape self.old self.new }
-        ensures turned { self.new ≡ turned which self.old }
+        ensures turned { self.new ≡ bank_turned which self.old }
         ensures fits { needed_end self.new ≤ area_end self.new }
     {
         self.base = number_of(self.base, self.count);
@@ -359,7 +360,7 @@ fn number_of(base: u64, count: u32) -> u64
 
 fn place_of(which: Which, bank_bytes: u32) -> u64
     requires { bank_bytes ≤ 131072 }
-    ensures value { result ≡ place_of which bank_bytes }
+    ensures value { result ≡ bank_place which bank_bytes }
     ensures end { result + 8 + bank_bytes ≡ end_of which bank_bytes }
     ensures bound { result ≤ 2 ^ 18 }
 {

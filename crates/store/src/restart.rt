@@ -1,3 +1,4 @@
+// A store that is open: header and banks, committed to and read again.
 ghost use Rattle.std.specs.Prelude.{◌≡◌, ◌≢◌, ◌+◌, ◌*◌, ◌%◌, ◌^◌, ◌≤◌, ◌<◌, [], All, length, Some, None, IsTrue, IsSome, IfOk, OnOk, is_err, false};
 ghost use Rattle.lines.specs.Directory.{page_count};
 ghost use Rattle.store.specs.Below.{FailsOnlyCounted, line_bytes, line_count, OnlyAsks, page_bytes, record_bytes, total};
@@ -5,17 +6,17 @@ ghost use Rattle.store.specs.Appended.{CanAppend, IsUsable};
 ghost use Rattle.store.specs.Held.{HoldsAtLeast};
 ghost use Rattle.store.specs.Kept.{begun_of, with_line};
 ghost use Rattle.store.specs.Records.{ReadsRecord, ReadsLine};
-ghost use Rattle.store.specs.KeptStore.{number_of};
+ghost use Rattle.store.specs.KeptStore.{store_number};
 ghost use Rattle.store.specs.Shows.{CheckpointsStore, CommitsStore, IsOpened, IsPageShown, IsReadAgain, IsStoreWith};
 ghost use Rattle.store.specs.Opened.{FailsByDisk, IsStartedAgain};
 ghost use Rattle.store.specs.Faults.{AsksOfStore, AsksStoreAgain};
 
 use super::checkpoint::Banks;
-use super::fault::{OpenFault, ReopenFault};
 use super::find::Record;
 use super::keep::Kept;
-use crate::page::read_newest;
-use crate::start::{start, synced};
+use super::open_fault::{OpenFault, ReopenFault};
+use crate::newest_lines::read_newest;
+use crate::opening::{start, synced};
 use outside::{Failed, Outside};
 use std::alloc::Global;
 use std::marker::Model;
@@ -31,9 +32,9 @@ pub struct Durable {
 }
 
 impl Model for Durable {
-    ghost use Rattle.store.specs.KeptStore.{KeptStore, Fits};
+    ghost use Rattle.store.specs.KeptStore.{StoreView, Fits};
 
-    ghost Value = { KeptStore };
+    ghost Value = { StoreView };
 
     ghost view = { λ d. record { header = d.header; bank = d.banks } };
 
@@ -83,7 +84,7 @@ impl Durable {
 
     /// The number of the store: how many commits it has had, modulo 2 to the 64.
     pub fn number(&self) -> u64
-        ensures { result ≡ number_of self.now }
+        ensures { result ≡ store_number self.now }
     {
         self.banks.number()
     }

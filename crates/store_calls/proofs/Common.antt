@@ -7,10 +7,10 @@ pub use Rattle.std.proofs.lemmas.List.{drop-drop, drop-take, length-append, leng
 pub use Rattle.std.proofs.lemmas.Nat.{div-add-mod', pow_pos}
 pub use Rattle.std.specs.Int.{div_ceil}
 pub use Rattle.std.specs.Prelude.{All, Err, IfSome, IsOk, IsSome, IsTrue, Ok, OnOk, Option, Result, codes, decimal, find, option_map, sum_by, unwrap_or, ◌==◌, nat_eq, not, slice_index, IsErr, IsErrAnd, MatchResult}
-pub use Rattle.store_calls.specs.Below.{AreCommitsOf, AreTold, Bundle, CommitLine, FlatStore, Four, Ghosts, Given, IsFaultAt, IsFirstBad, IsStanding, IsWholeBundle, KeptStore, Prints, Puts, PutsTimes, Status, Torn, Two, bytes_at, bytes_of, call, flat_map, given, is_named, page_bytes, starts_with, written}
+pub use Rattle.store_calls.specs.Below.{AreCommitsOf, AreTold, Bundle, CommitLine, FlatStore, Four, Ghosts, Given, IsFaultAt, IsFirstBadLine, IsStanding, IsWholeBundle, KeptStore, Prints, PrintsBytes, PutsTimes, Status, Torn, Two, bytes_at, bytes_of, call, flat_map, given, is_named, page_bytes, starts_with, written}
 pub use Rattle.lines.proofs.WithinLemmas.{byte_count_pages}
 pub use Rattle.lines.specs.Directory.{Layout, byte_count, length_of, page_count, start_of}
-pub use Rattle.lines.specs.Legal.{IsInRange, IsLegal}
+pub use Rattle.lines.specs.Legal.{IsInRange, AreSegmentsLegal}
 pub use Rattle.lines.specs.declared.line_geometry.PageSize.{PageSize}
 pub use Rattle.listing.specs.Listing.{row_lines}
 pub use Rattle.outside.proofs.Runs.{asks_on, asks_one, calls_on, elapses-trans, leaves_on, leaves_same, still_told}
@@ -18,29 +18,29 @@ pub use Rattle.outside.proofs.Shows.{held_same, shows_asks, shows_none, shows_on
 pub use Rattle.outside.specs.Runs.{AsksAndPuts, CallsDisk, FewerLater, OnlyAsks, held_of, Leaves}
 pub use Rattle.outside.specs.declared.failed.Failed.{Failed}
 pub use Rattle.store.proofs.ShowLemmas.{shown_store}
-pub use Rattle.store.specs.KeptStore.{number_of}
+pub use Rattle.store.specs.KeptStore.{store_number}
 pub use Rattle.store.specs.Shows.{IsShown, Shows, page_in, TracksStore}
-pub use Rattle.serial_audit.specs.Audit.{flat_of, IsVerdict, report_told, told_of}
+pub use Rattle.serial_audit.specs.Audit.{flat_of, IsVerdict, report_told, line_claim}
 pub use Rattle.store_format.proofs.Stores.{stands_is}
-pub use Rattle.store_format.specs.Header.{Header, fresh, number_at, page_of, total, Field, fields, first_fault, header_of, name_field, segment_fields, segments_of, spare_fields, within}
+pub use Rattle.store_format.specs.Header.{Header, fresh, number_at, page_size_of, total, Field, fields, first_fault, header_of, name_field, segment_fields, segments_of, spare_fields, within}
 pub use Rattle.store_format.specs.Stands.{Damaged, NotAStore, Standing, Stands, standing_if}
 unfoldable pub use Rattle.store_format.specs.Stands.{stands}
-pub use Rattle.store_calls.specs.New.{PutsIn, IsNoEmpty, IsOfWriting, IsStored, IsTornBy, IsWrittenWhole, LeavesTorn, Written, WrittenBy, new_line, IsNoStore, IsOnTheWay, LeavesWhole}
-pub use Rattle.store_calls.specs.Renewed.{HasOne, IsRenewed, Renewed, RenewedBy, is_version_two, renew_line, renewed_header, renewed_image, widened, widened_bytes, widened_segments}
-pub use Rattle.store_calls.specs.Show.{AreRead, HasRange, HasRead, IsInside, PutsBytes, PutsDone, RangeShown, ShownBy, StopsBy, bytes_in, rows_of}
+pub use Rattle.store_calls.specs.New.{PutsIn, IsNoEmpty, IsOfWriting, IsStored, IsTornBy, IsWrittenWhole, ImagesTorn, Written, WrittenBy, new_line, IsNoStore, IsOnTheWay, LeavesWhole}
+pub use Rattle.store_calls.specs.Renewed.{HasOne, IsRenewed, Renewed, RenewedBy, is_version_two, renew_line, renewed_header, renewed_image, store_widened, widened_bytes, widened_segments}
+pub use Rattle.store_calls.specs.Show.{AreBytesRead, HasRange, HasShown, IsInside, PutsBytes, PutsDone, RangeShown, ShownBy, StopsBy, bytes_standing, rows_of}
 pub use Rattle.store_calls.specs.declared.show.Range.{Range}
 pub use Rattle.outside.proofs.Durable.{leaves_held, told_some}
 pub use Rattle.outside.proofs.Prints.{prints_broken, prints_none, prints_on, prints_same, prints_stop, prints_unput}
 pub use Rattle.call_status.proofs.TextLemmas.{read_whole, text_fails}
 pub use Rattle.desk.specs.Commits.{is_commit}
-pub use Rattle.desk.specs.Lines.{Line, line_text}
+pub use Rattle.desk.specs.ReportLines.{ReportLine, line_text}
 pub use Rattle.job_text.specs.Grammar.{Content, content_of, job_of}
 pub use Rattle.listing.proofs.PutsLemmas.{done, puts_no_more, puts_on, puts_same, puts_stop}
 pub use Rattle.report_text.specs.Line.{commit_told}
 pub use Rattle.serial_audit.specs.Bundle.{IsBundle}
 pub use Rattle.serial_audit.specs.declared.touch.Touch.{Touch}
 pub use Rattle.store_calls.specs.Audited.{AuditedBy, CanAudit, IsOfAudit, IsUnchecked, verdict_line}
-pub use Rattle.store_calls.specs.Bundled.{HasBundle, IsBadClosing, IsNoJob, AreBundleParts, IsShut, IsWrongPart, part_of, Keeps}
-pub use Rattle.store_calls.specs.Traced.{CanTrace, IsFound, IsOfTrace, IsUntraced, TracedBy, status_of_trace, steps_line, touch_line}
+pub use Rattle.store_calls.specs.Bundled.{HasBundle, IsBadClosing, IsNoJob, AreBundleParts, IsBundleShut, IsWrongPart, bundle_part, StandsForKept}
+pub use Rattle.store_calls.specs.Traced.{CanTrace, IsTraceFound, IsOfTrace, IsUntraced, TracedBy, status_of_trace, steps_line, touch_line}
 pub use Rattle.std.proofs.lemmas.List.Sums.{sum_by-cons, count_by-le-length, length-filter}
 pub use Rattle.std.proofs.lemmas.Result.{on_ok_weaker}

@@ -1,5 +1,5 @@
 -- A bundle that has what a call needs.
-use Rattle.store_calls.proofs.Common.{◌≡◌, ◌⊎◌, ℕ, List, inl, inr, subst, Option, IsFirstBad, IsBundle, Bundle, IsFaultAt, IsStanding, IsWholeBundle, Status, read_whole, AuditedBy, CanAudit, IsOfAudit, HasBundle, IsBadClosing, IsNoJob, IsWrongPart, part_of, CanTrace, IsOfTrace, TracedBy, Ghosts, Result, IsErr, IsErrAnd, MatchResult, arith, nat_tests}
+use Rattle.store_calls.proofs.Common.{◌≡◌, ◌⊎◌, ℕ, List, inl, inr, subst, Option, IsFirstBadLine, IsBundle, Bundle, IsFaultAt, IsStanding, IsWholeBundle, Status, read_whole, AuditedBy, CanAudit, IsOfAudit, HasBundle, IsBadClosing, IsNoJob, IsWrongPart, bundle_part, CanTrace, IsOfTrace, TracedBy, Ghosts, Result, IsErr, IsErrAnd, MatchResult, arith, nat_tests}
 use Rattle.serial_audit.proofs.OneLemmas.{has_one_splitting}
 use Rattle.serial_audit.specs.declared.answer.TraceFault.TheVariants as fault
 use Rattle.call_status.specs.declared.status.Status.TheVariants as status
@@ -24,9 +24,9 @@ module _ (left left_now : Option (List ℕ)) (has : HasBundle left) where
   no_wrong : (part at : ℕ) → IsWrongPart has.text part at → ⊥
   no_wrong part at (inl (front, wrong)) = has_one_splitting.whole has.text has.bundle part has.parts wrong
   no_wrong part at (inr (inl (second, bad))) =
-      has.report at (subst (λ (bundle : Bundle). IsFirstBad (part_of has.text bundle.report) at) (is_bundle bad.bundle bad.parts) bad.bad)
+      has.report at (subst (λ (bundle : Bundle). IsFirstBadLine (bundle_part has.text bundle.report) at) (is_bundle bad.bundle bad.parts) bad.bad)
   no_wrong part at (inr (inr (third, bad))) =
-      stands_well (part_of has.text has.bundle.opening) at has.opening (subst (λ (bundle : Bundle). IsFaultAt (part_of has.text bundle.opening) at) (is_bundle bad.bundle bad.parts) bad.fault)
+      stands_well (bundle_part has.text has.bundle.opening) at has.opening (subst (λ (bundle : Bundle). IsFaultAt (bundle_part has.text bundle.opening) at) (is_bundle bad.bundle bad.parts) bad.fault)
 
   some_job : (line kind : ℕ) → IsNoJob has.text line kind → ⊥
   some_job line kind none = grind (arith, nat_tests, has.job, is_bundle none.bundle none.parts, none.fault)
@@ -38,8 +38,8 @@ module _ {W : Type 0} (G : Ghosts W) (left left_now : Option (List ℕ)) (before
     where
       no_closing : (at : ℕ) → IsBadClosing can.has.text at → ⊥
       no_closing at bad =
-          stands_well (part_of can.has.text can.has.bundle.closing) at can.closing
-          (subst (λ (bundle : Bundle). IsFaultAt (part_of can.has.text bundle.closing) at) (is_bundle left left_now can.has bad.bundle bad.opened.parts) bad.fault)
+          stands_well (bundle_part can.has.text can.has.bundle.closing) at can.closing
+          (subst (λ (bundle : Bundle). IsFaultAt (bundle_part can.has.text bundle.closing) at) (is_bundle left left_now can.has bad.bundle bad.opened.parts) bad.fault)
 
       by : (now : Status) → AuditedBy G can.has.text before after now → IsOfAudit now → (now ≡ status.PutFault → ⊥) → (now ≡ status.Done) ⊎ (now ≡ status.NoMemory)
       by (status.Bundle part at) (inl wrong, same) of put = absurd (no_wrong left left_now can.has part at wrong)

@@ -1,5 +1,5 @@
 -- A store of version 2 with what a store of version 1 has.
-use Rattle.store_calls.proofs.Common.{◌≡◌, inl, inr, ℕ, ◌+◌, ◌*◌, ◌/◌, ◌%◌, ◌^◌, ◌<◌, ◌≤◌, false, List, [], ◌∷◌, ◌++◌, length, map, take, take-suc, get_or, drop, replicate, true≢false, refl, sym, ◌∙◌, ap, subst, arith, All, sum_by, cases_eq, length-append, length-drop, length-replicate, length-map, length-take, map-append, pow_pos, Layout, FlatStore, IsInRange, IsLegal, bytes_of, Two, number_at, page_of, Stands, stands, Ghosts, flat_of, KeptStore, Given, call, Status, IsNoEmpty, IsOfWriting, Written, HasOne, IsRenewed, Renewed, RenewedBy, is_version_two, renew_line, renewed_header, renewed_image, widened, widened_bytes, widened_segments, nat_tests, sum_by-cons}
+use Rattle.store_calls.proofs.Common.{◌≡◌, inl, inr, ℕ, ◌+◌, ◌*◌, ◌/◌, ◌%◌, ◌^◌, ◌<◌, ◌≤◌, false, List, [], ◌∷◌, ◌++◌, length, map, take, take-suc, get_or, drop, replicate, true≢false, refl, sym, ◌∙◌, ap, subst, arith, All, sum_by, cases_eq, length-append, length-drop, length-replicate, length-map, length-take, map-append, pow_pos, Layout, FlatStore, IsInRange, AreSegmentsLegal, bytes_of, Two, number_at, page_size_of, Stands, stands, Ghosts, flat_of, KeptStore, Given, call, Status, IsNoEmpty, IsOfWriting, Written, HasOne, IsRenewed, Renewed, RenewedBy, is_version_two, renew_line, renewed_header, renewed_image, store_widened, widened_bytes, widened_segments, nat_tests, sum_by-cons}
 use Rattle.std.proofs.lemmas.List.Elements.{All-nil, All-cons, All-head, All-tail}
 use Rattle.store_format.proofs.Fresh.{stored_stands}
 use Rattle.store_format.proofs.Sound.{begins_two, named_header, sound_header, stood_header}
@@ -19,7 +19,7 @@ still_in_range : (segments : List (ℕ × ℕ)) → All IsInRange segments → A
 still_in_range [] range = All-nil IsInRange
 still_in_range (segment ∷ segments) range = grind (arith, nat_tests, All-head IsInRange segment segments range, All-cons IsInRange (segment.0, (segment.1 + 1) / 2) (widened_segments segments), still_in_range segments (All-tail IsInRange segment segments range))
 
-pub widened_legal : (segments : List (ℕ × ℕ)) → IsLegal segments → IsLegal (widened_segments segments)
+pub widened_legal : (segments : List (ℕ × ℕ)) → AreSegmentsLegal segments → AreSegmentsLegal (widened_segments segments)
 widened_legal segments legal = grind (arith, nat_tests, length-map, still_in_range, named_same, fewer_pages)
 
 -- one segment more
@@ -42,14 +42,14 @@ length-widened (segment ∷ segments) bytes whole =
     ∙ sym (sum_by-cons (bytes_of 4096) (segment.0, (segment.1 + 1) / 2) (widened_segments segments))
 
 -- the image of the widened store stands for it
-pub renewed_stands : (bank number : ℕ) (store : FlatStore) → 4096 ≤ bank → bank ≤ 131072 → number < 2 ^ 64 → IsLegal store.directory.segments → length store.bytes ≡ sum_by (bytes_of 2048) store.directory.segments
-    → stands (renewed_image bank number store) ≡ Stands number (widened store)
+pub renewed_stands : (bank number : ℕ) (store : FlatStore) → 4096 ≤ bank → bank ≤ 131072 → number < 2 ^ 64 → AreSegmentsLegal store.directory.segments → length store.bytes ≡ sum_by (bytes_of 2048) store.directory.segments
+    → stands (renewed_image bank number store) ≡ Stands number (store_widened store)
 renewed_stands bank number store least most low legal whole =
-    stored_stands (renewed_header bank store) number (widened store).bytes (record { least_bank = least; most_bank = most }) (widened_legal store.directory.segments legal) (pow_pos (length (widened_segments store.directory.segments))) low
+    stored_stands (renewed_header bank store) number (store_widened store).bytes (record { least_bank = least; most_bank = most }) (widened_legal store.directory.segments legal) (pow_pos (length (widened_segments store.directory.segments))) low
     (length-widened store.directory.segments store.bytes whole)
 
 -- what stands and has no version 2 in front is a store of version 1
-pub stood_one : (text : List ℕ) (number : ℕ) (store : FlatStore) → is_version_two text ≡ false → stands text ≡ Stands number store → (store.directory.page ≡ Two) × IsLegal store.directory.segments × (number < 2 ^ 64)
+pub stood_one : (text : List ℕ) (number : ℕ) (store : FlatStore) → is_version_two text ≡ false → stands text ≡ Stands number store → (store.directory.page ≡ Two) × AreSegmentsLegal store.directory.segments × (number < 2 ^ 64)
 stood_one text number store plain is =
     let (none, directory, low) = stood_header text number store is in
     let (name, long, least, most) = named_header text none in
@@ -59,9 +59,9 @@ stood_one text number store plain is =
         | inl two ↦ absurd (true≢false (sym (begins_two text long name two) ∙ plain))
         | inr other ↦
             let one : version ≡ 1 = one_left version least most other in
-            ap (λ (those : Layout). those.page) directory ∙ ap page_of one
+            ap (λ (those : Layout). those.page) directory ∙ ap page_size_of one
       ],
-      subst (λ (those : Layout). IsLegal those.segments) (sym directory) sound.legal,
+      subst (λ (those : Layout). AreSegmentsLegal those.segments) (sym directory) sound.legal,
       low,
     )
   where

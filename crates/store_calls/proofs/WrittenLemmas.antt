@@ -1,5 +1,5 @@
 -- An image without the name of a store is none; what a torn write over the places of one leaves; and what making a store did.
-use Rattle.store_calls.proofs.Common.{◌≡◌, ◌⊎◌, inl, inr, ◌+◌, ◌<◌, ℕ, List, [], length, refl, sym, ◌∙◌, ap, subst, arith, Option, IsSome, IsTrue, Result, Ok, Err, unwrap_or, Ghosts, Failed, Prints, Torn, CallsDisk, FewerLater, OnlyAsks, held_of, elapses-trans, leaves_on, Puts, PutsTimes, call, Status, IsNoEmpty, IsOfWriting, IsStored, IsTornBy, IsWrittenWhole, LeavesTorn, Written, WrittenBy, nat_tests, IsNoStore, LeavesWhole, ⊎_elim, ◌-◌, ◌≤◌, true, ◌∷◌, ◌++◌, take, drop, length-drop, length-take, nat_eq, not, codes, replicate, slice_index, Some, cases_lt, append-nil, drop-drop, drop_all, take_all, take-append-drop, take-take, written, Field, fields, first_fault, header_of, name_field, number_at, page_of, segment_fields, segments_of, spare_fields, within, standing_if, IsOnTheWay, starts_with, suc, cases_Bool, false}
+use Rattle.store_calls.proofs.Common.{◌≡◌, ◌⊎◌, inl, inr, ◌+◌, ◌<◌, ℕ, List, [], length, refl, sym, ◌∙◌, ap, subst, arith, Option, IsSome, IsTrue, Result, Ok, Err, unwrap_or, Ghosts, Failed, Prints, Torn, CallsDisk, FewerLater, OnlyAsks, held_of, elapses-trans, leaves_on, PrintsBytes, PutsTimes, call, Status, IsNoEmpty, IsOfWriting, IsStored, IsTornBy, IsWrittenWhole, ImagesTorn, Written, WrittenBy, nat_tests, IsNoStore, LeavesWhole, ⊎_elim, ◌-◌, ◌≤◌, true, ◌∷◌, ◌++◌, take, drop, length-drop, length-take, nat_eq, not, codes, replicate, slice_index, Some, cases_lt, append-nil, drop-drop, drop_all, take_all, take-append-drop, take-take, written, Field, fields, first_fault, header_of, name_field, number_at, page_size_of, segment_fields, segments_of, spare_fields, within, standing_if, IsOnTheWay, starts_with, suc, cases_Bool, false}
 use Rattle.outside.specs.Moments.{Elapses}
 use Rattle.outside.proofs.Torn.{untouched}
 use Rattle.call_status.specs.Printed.{put_of, PutsOnce}
@@ -39,7 +39,7 @@ abbrev others : List ℕ → List Field
 others image =
     within 10 2 (number_at image 10 2) 1 15
     ∷ within 12 4 (number_at image 12 4) 4096 131072
-    ∷ (segment_fields 16 1 1024 (segments_of image) ++ spare_fields (page_of (number_at image 8 2)) image (length (segments_of image)))
+    ∷ (segment_fields 16 1 1024 (segments_of image) ++ spare_fields (page_size_of (number_at image 8 2)) image (length (segments_of image)))
 
 -- one that doesn't begin with the name
 pub unnamed : (image : List ℕ) → 8 ≤ length image → starts_with nat_eq (take 128 image) name ≡ false → IsNoStore image
@@ -118,7 +118,7 @@ pub torn_short : (start left : List ℕ) → start ≡ [] → Torn 0 8 start lef
 torn_short start left none torn = omega (arith, torn.no_longer, ap length none)
 
 -- an image was written on an empty disk
-module _ {W : Type 0} (G : Ghosts W) (fewer_later : FewerLater G) (image line : List ℕ) (start mid : W) (calls : CallsDisk G start mid) (torn : LeavesTorn G (length image) start mid) (whole : LeavesWhole G image start mid) where
+module _ {W : Type 0} (G : Ghosts W) (fewer_later : FewerLater G) (image line : List ℕ) (start mid : W) (calls : CallsDisk G start mid) (torn : ImagesTorn G (length image) start mid) (whole : LeavesWhole G image start mid) where
   -- no bytes were held
   none_held : (after : W) → (IsSome (G.held start) → held_of G start ≡ []) → IsSome (G.held start) → 0 < length (held_of G start) → OnlyAsks G start after
   none_held after empty told some = absurd (omega (arith, some, ap length (empty told)))
@@ -129,10 +129,10 @@ module _ {W : Type 0} (G : Ghosts W) (fewer_later : FewerLater G) (image line : 
 
   -- all was written, and the line put
   module _ (empty : IsSome (G.held start) → held_of G start ≡ []) (written : IsWrittenWhole G image start mid) (calm : G.disk_faults mid ≡ G.disk_faults start) (after : W) where
-    stored : (result : Result (Unit {0}) Failed) → Puts G line mid after result → IsStored G image start after
+    stored : (result : Result (Unit {0}) Failed) → PrintsBytes G line mid after result → IsStored G image start after
     stored result puts = grind (arith, nat_tests)
 
-    torn-after : (result : Result (Unit {0}) Failed) → Puts G line mid after result → LeavesTorn G (length image) start after
+    torn-after : (result : Result (Unit {0}) Failed) → PrintsBytes G line mid after result → ImagesTorn G (length image) start after
     torn-after result puts honest told =
         leaves_on G fewer_later start mid after calls.time puts.only.time (λ (crashed seen : List ℕ). (first : List ℕ) × (begun : List ℕ) × G.left_since start (G.moment start) first begun × Torn 0 (length image) first crashed)
         (torn honest told)
@@ -140,29 +140,29 @@ module _ {W : Type 0} (G : Ghosts W) (fewer_later : FewerLater G) (image line : 
         let (first, since) = puts.images crashed seen left in
         torn honest told crashed first (fewer_later mid (G.moment start) (G.moment mid) crashed first calls.time.later since))
 
-    whole-after : (result : Result (Unit {0}) Failed) → Puts G line mid after result → LeavesWhole G image start after
+    whole-after : (result : Result (Unit {0}) Failed) → PrintsBytes G line mid after result → LeavesWhole G image start after
     whole-after result puts honest told first =
         leaves_on G fewer_later start mid after calls.time puts.only.time (λ (left seen : List ℕ). IsNoStore left ⊎ (left ≡ image)) (whole honest told first)
         (λ left seen was.
         let (shown, since) = puts.images left seen was in
         whole honest told first left shown (fewer_later mid (G.moment start) (G.moment mid) left shown calls.time.later since))
 
-    put-written : (now : Status) (result : Result (Unit {0}) Failed) → Puts G line mid after result → WrittenBy G image line start after now → Written G image line (call start after [] now)
+    put-written : (now : Status) (result : Result (Unit {0}) Failed) → PrintsBytes G line mid after result → WrittenBy G image line start after now → Written G image line (call start after [] now)
     put-written now result puts by = grind (arith, nat_tests, elapses-trans G fewer_later start mid after calls.time puts.only.time, torn-after result puts, whole-after result puts, none_held after empty)
 
-    printed-from : (result : Result (Unit {0}) Failed) → Puts G line mid after result → Prints (G.printed start) (G.printed after) line result
+    printed-from : (result : Result (Unit {0}) Failed) → PrintsBytes G line mid after result → Prints (G.printed start) (G.printed after) line result
     printed-from result puts = subst (λ (these : Option (List ℕ)). Prints these (G.printed after) line result) calls.quiet.same puts.printed
 
     once : PutsTimes {T = Unit {0}} G 1 mid after (Ok tt) → PutsOnce G start after
     once times told = times (subst (λ (these : Option (List ℕ)). IsSome these) (sym calls.quiet.same) told) ∙ ap (λ (n : ℕ). n + 1) calls.puts
 
-    pub written_put : (now : Status) → (now ≡ status.Done) ⊎ (now ≡ status.PutFault) → Puts G line mid after (put_of now) → PutsTimes G 1 mid after (put_of now) → Written G image line (call start after [] now)
+    pub written_put : (now : Status) → (now ≡ status.Done) ⊎ (now ≡ status.PutFault) → PrintsBytes G line mid after (put_of now) → PutsTimes G 1 mid after (put_of now) → Written G image line (call start after [] now)
     written_put now (inl is) puts times =
-        let those = subst (λ (this : Status). Puts G line mid after (put_of this)) is puts in
+        let those = subst (λ (this : Status). PrintsBytes G line mid after (put_of this)) is puts in
         subst (λ (this : Status). Written G image line (call start after [] this)) (sym is)
         (put-written status.Done (Ok tt) those (stored (Ok tt) those, printed-from (Ok tt) those, once (subst (λ (this : Status). PutsTimes G 1 mid after (put_of this)) is times)))
     written_put now (inr is) puts times =
-        let those = subst (λ (this : Status). Puts G line mid after (put_of this)) is puts in
+        let those = subst (λ (this : Status). PrintsBytes G line mid after (put_of this)) is puts in
         subst (λ (this : Status). Written G image line (call start after [] this)) (sym is)
         (put-written status.PutFault (Err (record {})) those (stored (Err (record {})) those, printed-from (Err (record {})) those))
 
@@ -177,7 +177,7 @@ module _ {W : Type 0} (G : Ghosts W) (fewer_later : FewerLater G) (before start 
   honest-start : IsTrue (G.is_honest before) → IsTrue (G.is_honest start)
   honest-start honest = subst (λ b. IsTrue b) (sym asks.calls.honest) honest
 
-  torn_on : (count : ℕ) (after : W) → Elapses G.moment G.left_since start after → LeavesTorn G count start after → LeavesTorn G count before after
+  torn_on : (count : ℕ) (after : W) → Elapses G.moment G.left_since start after → ImagesTorn G count start after → ImagesTorn G count before after
   torn_on count after time torn honest told =
       leaves_on G fewer_later before start after asks.calls.time time (λ (image seen : List ℕ). (first : List ℕ) × (begun : List ℕ) × G.left_since before (G.moment before) first begun × Torn 0 count first image)
       (λ image seen left. (image, seen, asks.crash told image seen left, untouched 0 count image))

@@ -1,11 +1,11 @@
 -- What an audit did: the commits of a bundle's report were run again, and one line tells whether they leave what it says.
 use Rattle.std.specs.Prelude.{◌≡◌, ◌≢◌, ℕ, ◌⊎◌, List, [], ◌++◌, codes, decimal, length, Option}
-use Rattle.store_calls.specs.Below.{Bundle, Call, CommitLine, DoneIfCalm, Ghosts, Given, IsOfLines, IsStanding, IsVerdict, Job, KeptStore, put_of, Puts, PutsTimes, report_told, RoomReads, Status}
+use Rattle.store_calls.specs.Below.{Bundle, Called, CommitLine, DoneIfCalm, Ghosts, Given, IsOfLines, IsStanding, IsVerdict, Job, KeptStore, put_of, PrintsBytes, PutsTimes, report_told, RoomReads, Status}
 use Rattle.serial_audit.specs.declared.auditing.Verdict.{Verdict}
 use Rattle.serial_audit.specs.declared.auditing.Verdict.TheVariants.{NotSerial, Serial}
 use Rattle.call_status.specs.declared.status.Status.TheVariants as status
 use Rattle.outside.specs.declared.source.Source as source
-use Rattle.store_calls.specs.Bundled.{HasBundle, IsBadClosing, IsNoJob, AreBundleParts, IsWrongPart, WithBundle, part_of, Keeps}
+use Rattle.store_calls.specs.Bundled.{HasBundle, IsBadClosing, IsNoJob, AreBundleParts, IsWrongPart, WithBundle, bundle_part, StandsForKept}
 
 -- the line of a verdict on so many commits
 abbrev pub verdict_line : (commits : ℕ) → Verdict → List ℕ
@@ -20,7 +20,7 @@ pub record IsChecked (bytes : List ℕ) (commits : ℕ) (verdict : Verdict) : Ty
   pub opening : KeptStore
   pub closing : KeptStore
   pub opened : AreBundleParts bytes bundle job report opening
-  pub closing_is : Keeps (part_of bytes bundle.closing) closing
+  pub closing_is : StandsForKept (bundle_part bytes bundle.closing) closing
   pub counted : commits ≡ length (report_told report)
   pub told : IsVerdict job opening closing (report_told report) verdict
 
@@ -36,7 +36,7 @@ pub record TellsVerdict {W : Type 0} (G : Ghosts W) (bytes : List ℕ) (before a
   pub commits : ℕ
   pub verdict : Verdict
   pub checked : IsChecked bytes commits verdict
-  pub puts : Puts G (verdict_line commits verdict) before after (put_of status)
+  pub puts : PrintsBytes G (verdict_line commits verdict) before after (put_of status)
   pub times : PutsTimes G 1 before after (put_of status)
 
 -- what was done with the text of a bundle, by the status: the verdict was told or a put failed, or nothing outside was called
@@ -46,7 +46,7 @@ AuditedBy G bytes before after status.PutFault = TellsVerdict G bytes before aft
 AuditedBy G bytes before after other = IsUnchecked bytes other × (after ≡ before)
 
 -- what an audit did; it has no order, and the source's count of faults rises with SourceFault alone
-pub record Audited {W : Type 0} (G : Ghosts W) (given : Given) (call : Call W) : Type 0 where
+pub record Audited {W : Type 0} (G : Ghosts W) (given : Given) (call : Called W) : Type 0 where
   pub no_order : call.order ≡ []
   pub calm : call.status ≢ Status.SourceFault → given.faults_now ≡ given.faults
   pub by_status : WithBundle given (call.after ≡ call.before) (λ text. AuditedBy G text call.before call.after call.status) call.status
@@ -54,7 +54,7 @@ pub record Audited {W : Type 0} (G : Ghosts W) (given : Given) (call : Call W) :
 -- The source has what an audit needs: a bundle, whose closing store stands too.
 pub record CanAudit (left : Option (List ℕ)) : Type 0 where
   pub has : HasBundle left
-  pub closing : IsStanding (part_of has.text has.bundle.closing)
+  pub closing : IsStanding (bundle_part has.text has.bundle.closing)
 
 -- a status of an audit
 abbrev pub IsOfAudit : Status → Type 0

@@ -1,7 +1,7 @@
 -- The words of other crates that this crate's definitions and contracts speak with, each from its own place. Declares nothing.
 pub use Rattle.std.specs.List.{flat_map, starts_with}
 pub use Rattle.std.specs.Option.{ForSome, option_map}
-pub use Rattle.call_status.specs.Call.{Call, call, Given, given}
+pub use Rattle.call_status.specs.Call.{Called, call, Given, given}
 pub use Rattle.call_status.specs.Faults.{DoneIfCalm, FaultsBy, RoomEnds, RoomReads}
 pub use Rattle.call_status.specs.Opening.{IsFaultAt, IsStanding}
 pub use Rattle.call_status.specs.Printed.{PrintsBy, put_of, PutsOnce}
@@ -13,15 +13,15 @@ pub use Rattle.lines.specs.Directory.{byte_count, Layout, length_of, start_of}
 pub use Rattle.lines.specs.FlatStore.{FlatStore}
 pub use Rattle.lines.specs.Segments.{bytes_of, is_named, page_bytes}
 pub use Rattle.lines.specs.declared.line_geometry.PageSize.TheVariants.{Four, Two}
-pub use Rattle.listing.specs.Puts.{Puts, PutsTimes}
+pub use Rattle.listing.specs.BytesPut.{PrintsBytes, PutsTimes}
 pub use Rattle.outside.specs.Bytes.{AreTold, bytes_at, Prints, Torn, written}
 pub use Rattle.outside.specs.Causes.{FailsOnlyCounted, Rose}
 pub use Rattle.outside.specs.Durable.{IsSure}
 pub use Rattle.outside.specs.Runs.{AsksAndPuts, CallsDisk, held_of, Leaves, OnlyAsks}
 pub use Rattle.outside.specs.declared.failed.Failed.{Failed}
 pub use Rattle.outside.specs.declared.world.Outside.{Ghosts}
-pub use Rattle.report_text.specs.ReadLines.{AreCommitsOf, IsFirstBad}
-pub use Rattle.report_text.specs.declared.line.CommitLine.{CommitLine}
+pub use Rattle.report_text.specs.ReadLines.{AreCommitsOf, IsFirstBadLine}
+pub use Rattle.report_text.specs.declared.report_line.CommitLine.{CommitLine}
 pub use Rattle.serial_audit.specs.Audit.{flat_of, IsVerdict, report_told}
 pub use Rattle.serial_audit.specs.declared.auditing.KeptStore.{KeptStore}
 pub use Rattle.serial_audit.specs.declared.bundle.Bundle.{Bundle}

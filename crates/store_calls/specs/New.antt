@@ -1,6 +1,6 @@
 -- What making a store did.
 use Rattle.std.specs.Prelude.{◌≡◌, ◌≢◌, ◌⊎◌, ℕ, ◌+◌, ◌<◌, ◌≤◌, List, [], ◌++◌, codes, decimal, length, take, OnOk, Some, IsSome, IsTrue, Result}
-use Rattle.store_calls.specs.Below.{Call, CallsDisk, Failed, FailsOnlyCounted, FaultsBy, fresh, Ghosts, Header, held_of, IsSure, Leaves, NotAStore, OnlyAsks, option_map, PrintsBy, Puts, PutsOnce, PutsTimes, Rose, stands, Status, Torn, total, written}
+use Rattle.store_calls.specs.Below.{Called, CallsDisk, Failed, FailsOnlyCounted, FaultsBy, fresh, Ghosts, Header, held_of, IsSure, Leaves, NotAStore, OnlyAsks, option_map, PrintsBy, PrintsBytes, PutsOnce, PutsTimes, Rose, stands, Status, Torn, total, written}
 use Rattle.outside.specs.Moments.{Elapses}
 use Rattle.call_status.specs.declared.status.Status.TheVariants as status
 
@@ -10,7 +10,7 @@ new_line header = codes "new " ++ decimal (total header) ++ codes "\n"
 
 -- bytes are put by so many puts, or where one failed a prefix of them
 pub record PutsIn {W : Type 0} (G : Ghosts W) (bytes : List ℕ) (count : ℕ) (old new : W) (result : Result (Unit {0}) Failed) : Type 0 where
-  pub puts : Puts G bytes old new result
+  pub puts : PrintsBytes G bytes old new result
   pub times : PutsTimes G count old new result
 
 -- a status is one of a call, and tells of the faults in it
@@ -44,8 +44,8 @@ LeavesTornAt G at count before after =
     IsTrue (G.is_honest before) → IsSome (G.held before)
     → Leaves G (λ image seen. (start : List ℕ) × (begun : List ℕ) × G.left_since before (G.moment before) start begun × Torn at count start image) before after
 
-abbrev pub LeavesTorn : {W : Type 0} → Ghosts W → ℕ → W → W → Type 0
-LeavesTorn G count before after = LeavesTornAt G 0 count before after
+abbrev pub ImagesTorn : {W : Type 0} → Ghosts W → ℕ → W → W → Type 0
+ImagesTorn G count before after = LeavesTornAt G 0 count before after
 
 -- these bytes were written at an offset and are sure where the disk is honest and tells its bytes; one write succeeded
 pub record IsPutDown {W : Type 0} (G : Ghosts W) (at : ℕ) (bytes : List ℕ) (old new : W) : Type 0 where
@@ -54,7 +54,7 @@ pub record IsPutDown {W : Type 0} (G : Ghosts W) (at : ℕ) (bytes : List ℕ) (
   pub writes : G.writes new ≡ option_map (λ count. count + 1) (G.writes old)
 
 -- an image was filled in behind the place of its name, and named; two writes succeeded
-pub record IsFilled {W : Type 0} (G : Ghosts W) (image : List ℕ) (old new : W) : Type 0 where
+pub record IsImageFilled {W : Type 0} (G : Ghosts W) (image : List ℕ) (old new : W) : Type 0 where
   pub held : IsSome (G.held old) → G.held new ≡ Some image
   pub sure : IsTrue (G.is_honest old) → IsSome (G.held old) → IsSure G new
   pub writes : G.writes new ≡ option_map (λ count. count + 2) (G.writes old)
@@ -85,19 +85,19 @@ pub record WritesImage {W : Type 0} (G : Ghosts W) (image : List ℕ) (before af
   pub cause : FailsOnlyCounted (G.disk_faults before) (G.disk_faults after) result
   pub done : OnOk result (IsWrittenWhole G image before after)
   pub torn : IsTornBy G (length image) before after
-  pub crash : LeavesTorn G (length image) before after
+  pub crash : ImagesTorn G (length image) before after
   pub whole : LeavesWhole G image before after
 
 -- What filling it in behind the place of its name and naming it did: a crash leaves an image that is on the way, of a disk that was sure of its bytes.
 pub record FillsImage {W : Type 0} (G : Ghosts W) (image : List ℕ) (before after : W) (result : Result (Unit {0}) Failed) : Type 0 where
   pub calls : CallsDisk G before after
   pub cause : FailsOnlyCounted (G.disk_faults before) (G.disk_faults after) result
-  pub done : OnOk result (IsFilled G image before after)
+  pub done : OnOk result (IsImageFilled G image before after)
   pub told : IsSome (G.held before) → IsSome (G.held after) × (length (held_of G after) ≤ length image)
   pub left : IsSure G before → Leaves G (λ left seen. IsOnTheWay image left) before after
 
 -- What writing bytes at an offset and making them sure did: a crash leaves what one left at the start, or that with any bytes in their place.
-pub record WritesSure {W : Type 0} (G : Ghosts W) (at : ℕ) (bytes : List ℕ) (before after : W) (result : Result (Unit {0}) Failed) : Type 0 where
+pub record WritesNew {W : Type 0} (G : Ghosts W) (at : ℕ) (bytes : List ℕ) (before after : W) (result : Result (Unit {0}) Failed) : Type 0 where
   pub calls : CallsDisk G before after
   pub cause : FailsOnlyCounted (G.disk_faults before) (G.disk_faults after) result
   pub done : OnOk result (IsPutDown G at bytes before after)
@@ -128,11 +128,11 @@ IsOfWriting status.DiskFault = Unit {0}
 IsOfWriting _ = ⊥
 
 -- what it did; there is no order, and the disk's count of faults rises with DiskFault alone
-pub record Written {W : Type 0} (G : Ghosts W) (image line : List ℕ) (call : Call W) : Type 0 where
+pub record Written {W : Type 0} (G : Ghosts W) (image line : List ℕ) (call : Called W) : Type 0 where
   pub no_order : call.order ≡ []
   pub honest : G.is_honest call.after ≡ G.is_honest call.before
   pub time : Elapses G.moment G.left_since call.before call.after
-  pub crash : LeavesTorn G (length image) call.before call.after
+  pub crash : ImagesTorn G (length image) call.before call.after
   pub whole : LeavesWhole G image call.before call.after
   pub calm : call.status ≢ status.DiskFault → G.disk_faults call.after ≡ G.disk_faults call.before
   -- a disk that holds bytes is only asked
@@ -140,7 +140,7 @@ pub record Written {W : Type 0} (G : Ghosts W) (image line : List ℕ) (call : C
   pub by_status : WrittenBy G image line call.before call.after call.status
 
 -- what making a store did: its image has nothing in it but the header
-abbrev pub Made : {W : Type 0} → Ghosts W → Header → Call W → Type 0
+abbrev pub Made : {W : Type 0} → Ghosts W → Header → Called W → Type 0
 Made G header call = Written G (fresh header) (new_line header) call
 
 -- a status of making a store

@@ -3,7 +3,7 @@ ghost use Rattle.std.specs.Prelude.{◌≡◌, ◌≤◌, ◌<◌, ℕ, length, 
 ghost use Rattle.store_calls.specs.New.{EndsAs, PutsIn};
 ghost use Rattle.store_calls.specs.Audited.{AuditedBy, AuditsFrom, IsChecked, IsOfAudit, IsUnchecked, verdict_line};
 
-use super::bundle::{open_bundle, part, store_in};
+use super::bundle_parts::{open_bundle, part, store_in};
 use call_status::{MOST_OF_BUNDLE, Status, read_text};
 use outside::{Failed, Outside, Source};
 use serial_audit::{Verdict, audit};

@@ -2,8 +2,8 @@
 ghost use Rattle.store_calls.specs.declared.kept.KeptFault.TheVariants.{Memory};
 ghost use Rattle.std.specs.Prelude.{◌≡◌, IsSome, IfOk, IfErr, MatchResult};
 ghost use Rattle.store_calls.specs.Below.{byte_count, held_of, IsShown, IsUsable, stands, total};
-ghost use Rattle.store_calls.specs.Bundled.{IsWhyNone, Keeps, fault_of};
-ghost use Rattle.store_calls.specs.Show.{bytes_in};
+ghost use Rattle.store_calls.specs.Bundled.{IsWhyNone, StandsForKept, kept_fault};
+ghost use Rattle.store_calls.specs.Show.{bytes_standing};
 
 use outside::{Failed, Joint, MemoryDisk, MemoryScreen, Outside};
 use serial_audit::KeptStore;
@@ -40,7 +40,7 @@ impl From<Failed> for KeptFault {
 }
 
 impl From<OpenFault> for KeptFault {
-    ghost from_gives = { λ opened fault. fault ≡ fault_of opened };
+    ghost from_gives = { λ opened fault. fault ≡ kept_fault opened };
 
     fn from(fault: OpenFault) -> Self {
         match fault {
@@ -56,7 +56,7 @@ impl From<OpenFault> for KeptFault {
 ///
 /// As [`KeptFault`] says; it tells an offset exactly where the bytes stand for nothing.
 pub fn kept_store(alloc: Global, bytes: &[u8]) -> Result<KeptStore, KeptFault>
-    ensures { MatchResult result (Keeps bytes.now) (IsWhyNone bytes.now) }
+    ensures { MatchResult result (StandsForKept bytes.now) (IsWhyNone bytes.now) }
 {
     kept_image(alloc, Vec::from_slice(alloc, bytes)?)
 }
@@ -67,7 +67,7 @@ pub fn kept_store(alloc: Global, bytes: &[u8]) -> Result<KeptStore, KeptFault>
 ///
 /// As [`KeptFault`] says; it tells an offset exactly where the bytes stand for nothing.
 pub fn kept_image(alloc: Global, image: Vec<u8>) -> Result<KeptStore, KeptFault>
-    ensures { MatchResult result (Keeps image.items) (IsWhyNone image.items) }
+    ensures { MatchResult result (StandsForKept image.items) (IsWhyNone image.items) }
 {
     let disk = MemoryDisk::new(alloc, image, Vec::new(alloc));
     let mut outside = Joint::new(disk, MemoryScreen::new(alloc, Vec::new(alloc)));
@@ -76,7 +76,7 @@ pub fn kept_image(alloc: Global, image: Vec<u8>) -> Result<KeptStore, KeptFault>
 
 /// The store that a disk holds, whole.
 fn read_store<W: Outside>(alloc: Global, outside: &mut W) -> Result<KeptStore, KeptFault>
-    ensures { IsSome (W.held outside.old) → MatchResult result (Keeps (held_of W.Outside outside.old)) (IsWhyNone (held_of W.Outside outside.old)) }
+    ensures { IsSome (W.held outside.old) → MatchResult result (StandsForKept (held_of W.Outside outside.old)) (IsWhyNone (held_of W.Outside outside.old)) }
 {
     let durable = Durable::open(alloc, outside)?;
     Ok(KeptStore {
@@ -93,7 +93,7 @@ fn all_bytes<W: Outside>(
     outside: &mut W,
 ) -> Result<Vec<u8>, KeptFault>
     requires { IsUsable W.Outside (total store.now.header) store.now.bank outside.old }
-    ensures read { IfOk result (λ bytes. IsShown W.Outside store.now outside.old → bytes.items ≡ bytes_in (stands (held_of W.Outside outside.old)) 0 (byte_count store.now.header.directory)) }
+    ensures read { IfOk result (λ bytes. IsShown W.Outside store.now outside.old → bytes.items ≡ bytes_standing (stands (held_of W.Outside outside.old)) 0 (byte_count store.now.header.directory)) }
     ensures memory { IfErr result (λ fault. fault ≡ KeptFault.Memory) }
 {
     let directory = store.header().directory();

@@ -3,19 +3,19 @@
 #![tactic(auto)]
 
 mod audit;
-mod bundle;
+mod bundle_parts;
 mod kept;
 mod new;
-mod opening;
 mod renew;
 mod show;
 mod trace;
+mod tried_store;
 mod written;
 
 pub use audit::audit_source;
 pub use kept::{KeptFault, kept_store};
 pub use new::make_store;
-pub use opening::try_store;
 pub use renew::renew_store;
 pub use show::{Range, show_range};
 pub use trace::trace_source;
+pub use tried_store::try_store;

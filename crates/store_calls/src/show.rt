@@ -1,7 +1,7 @@
 // Bytes of a store, printed.
 ghost use Rattle.std.specs.Prelude.{◌≡◌, ◌+◌, ◌%◌, ◌^◌, ◌≤◌, ◌<◌, find, length, None, MatchOption};
 ghost use Rattle.store_calls.specs.Below.{byte_count, is_named, IsUsable, length_of, page_bytes, RoomEnds, start_of, total};
-ghost use Rattle.store_calls.specs.Show.{CanRead, HasRead, IsInside, IsOfShow, PutsBytes, RangeShown, ReadsPart};
+ghost use Rattle.store_calls.specs.Show.{CanRead, HasShown, IsInside, IsOfShow, PutsBytes, RangeShown, ReadsPart};
 
 use call_status::Status;
 use lines::Directory;
@@ -115,7 +115,7 @@ fn put_part<W: Outside>(
     requires offsets { offset ≤ at }
     requires part { (0 < count) × (count ≤ 2048) }
     ensures puts { PutsBytes W.Outside store.now at offset count outside.old outside.new result }
-    ensures read { HasRead W.Outside store.now at count outside.old outside.new result }
+    ensures read { HasShown W.Outside store.now at count outside.old outside.new result }
 {
     let mut room = [0; PART as usize];
     let (bytes, _) = room.split_at_mut(count as usize);

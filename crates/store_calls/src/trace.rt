@@ -4,7 +4,7 @@ ghost use Rattle.store_calls.specs.Below.{flat_map};
 ghost use Rattle.store_calls.specs.New.{EndsAs, PutsIn};
 ghost use Rattle.store_calls.specs.Traced.{IsOfTrace, IsTraced, IsUntraced, TracedBy, TracesFrom, status_of_trace, steps_line, touch_line, trace_lines};
 
-use super::bundle::open_bundle;
+use super::bundle_parts::open_bundle;
 use call_status::{MOST_OF_BUNDLE, Status, read_text};
 use outside::{Failed, Outside, Source};
 use serial_audit::{Touch, Trace, TraceFault, trace};

@@ -1,7 +1,7 @@
 // An image that is written on an empty disk, and a line that tells it.
 ghost use Rattle.std.specs.Prelude.{◌≡◌, ◌⊎◌, ◌≤◌, [], codes, length, replicate, take, IsSome, IfOk, IfErr, OnOk};
 ghost use Rattle.store_calls.specs.Below.{call, FailsOnlyCounted, ForSome, held_of, OnlyAsks, put_of};
-ghost use Rattle.store_calls.specs.New.{CanWrite, EndsAs, FillsImage, IsNoEmpty, IsOfWriting, PutsIn, Written, WritesImage, WritesSure};
+ghost use Rattle.store_calls.specs.New.{CanWrite, EndsAs, FillsImage, IsNoEmpty, IsOfWriting, PutsIn, Written, WritesImage, WritesNew};
 
 use call_status::Status;
 use outside::{Failed, Outside};
@@ -74,7 +74,7 @@ fn fill<W: Outside>(image: &[u8], outside: &mut W) -> Result<(), Failed>
 /// Writes bytes at an offset and makes them sure.
 fn write_sure<W: Outside>(at: u64, bytes: &[u8], outside: &mut W) -> Result<(), Failed>
     requires { ForSome (W.held outside.old) (λ held. at ≤ length held) }
-    ensures { WritesSure W.Outside at bytes.now outside.old outside.new result }
+    ensures { WritesNew W.Outside at bytes.now outside.old outside.new result }
 {
     outside.write_at(at, bytes)?;
     outside.sync()

@@ -14,15 +14,15 @@ pub use Rattle.byteorder.specs.Numbers.{big_from-take, big_number-reads_back}
 pub use Rattle.lines.proofs.WithinLemmas.{byte_count-lines}
 pub use Rattle.lines.specs.Directory.{Layout, byte_count}
 pub use Rattle.lines.specs.FlatStore.{FlatStore}
-pub use Rattle.lines.specs.Legal.{AreFlags, IsLegal, fault_after, fault_of, flag_count, is_strange}
-pub use Rattle.lines.specs.Lines.{line_count}
+pub use Rattle.lines.specs.Legal.{AreFlags, AreSegmentsLegal, fault_after, fault_of, flag_count, is_strange}
+pub use Rattle.lines.specs.FlatLines.{line_count}
 pub use Rattle.lines.specs.Segments.{line_bytes}
 pub use Rattle.lines.specs.declared.line_geometry.PageSize.{PageSize}
 pub use Rattle.lines.specs.declared.line_geometry.PageSize.TheVariants.{Four, Two}
 pub use Rattle.outside.specs.Runs.{held_of}
-pub use Rattle.store_format.specs.Bank.{Area, Bank, Closed, Faulty, Gate, HasBank, Holds, HoldsFrom, NoMore, NoRecord, OneMore, RecordLine, Sound, Wrong, area_at, area_of, bank_held, bank_of, base_of, count_of, gate_at, gate_if, head_fault, headed_gate, lined_gate, lines_from, lines_of, number_of, preceded, record_bytes, wrong_line}
+pub use Rattle.store_format.specs.Bank.{Area, BankContent, Closed, Faulty, Gate, HasBank, Holds, HoldsFrom, NoMore, NoRecord, OneMore, RecordLine, Sound, Wrong, area_at, area_of, bank_held, bank_of, base_of, count_of, gate_at, gate_if, head_fault, headed_gate, lined_gate, lines_from, parsed_lines, held_number, preceded, record_bytes, wrong_line}
 unfoldable pub use Rattle.store_format.specs.Bank.{holds_from}
-pub use Rattle.store_format.specs.Header.{Field, HasRanges, Header, bank_at, entry_bytes, fields, first_fault, fresh, front, header_bytes, header_of, home_at, most_lines, name_field, number_at, page_of, segment_bytes, segment_fields, segments_at, segments_of, spare_fields, total, version_of, within, zeros}
+pub use Rattle.store_format.specs.Header.{Field, HasRanges, Header, bank_at, entry_bytes, fields, first_fault, fresh, front, header_bytes, header_of, home_at, most_lines, name_field, number_at, page_size_of, segment_bytes, segment_fields, segments_at, segments_of, spare_fields, total, version_of, within, zeros}
 unfoldable pub use Rattle.store_format.specs.Header.{last_zeros}
 pub use Rattle.store_format.specs.Stands.{Damaged, HasHeader, IsStore, NotAStore, Standing, Stands, chosen, home_of, laid, nothing_in, one_more, standing_by, standing_if}
 unfoldable pub use Rattle.store_format.specs.Stands.{stands}

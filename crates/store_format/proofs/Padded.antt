@@ -1,5 +1,5 @@
 -- A header that is cut, with zeros behind it.
-use Rattle.store_format.proofs.Common.{◌≡◌, ℕ, zero, suc, ◌+◌, ◌*◌, ◌-◌, ◌^◌, ◌≤◌, List, [], ◌∷◌, ◌++◌, length, take, drop, refl, sym, ◌∙◌, ap, arith, slice_index, replicate, inl, inr, Option, min, unwrap_or, IsSome, IfSome, cases_lt, nat_tests, get_or-drop, get_or_append_left, get_or-append_right, get_or_past, take-append-le, take_all, drop-replicate, length-take, big_from, PageSize, Two, Four, Header, page_of, spare_fields, Field, number_at, within, name_field, segments_at, segments_of, segment_fields, zeros, fields, first_fault, header_of}
+use Rattle.store_format.proofs.Common.{◌≡◌, ℕ, zero, suc, ◌+◌, ◌*◌, ◌-◌, ◌^◌, ◌≤◌, List, [], ◌∷◌, ◌++◌, length, take, drop, refl, sym, ◌∙◌, ap, arith, slice_index, replicate, inl, inr, Option, min, unwrap_or, IsSome, IfSome, cases_lt, nat_tests, get_or-drop, get_or_append_left, get_or-append_right, get_or_past, take-append-le, take_all, drop-replicate, length-take, big_from, PageSize, Two, Four, Header, page_size_of, spare_fields, Field, number_at, within, name_field, segments_at, segments_of, segment_fields, zeros, fields, first_fault, header_of}
 use Rattle.outside.specs.Bytes.{bytes_at}
 use Rattle.store_format.proofs.Checks.{last_zeros_are}
 
@@ -35,7 +35,7 @@ same_zeros xs ys at (suc count) same = grind (arith, nat_tests, same_zeros xs ys
 
 -- a header by what its fields say
 abbrev pub made : ℕ → List (ℕ × ℕ) → ℕ → ℕ → Header
-made version segments fine bank_bytes = record { directory = record { page = page_of version; segments = segments; fine = fine }; bank_bytes = bank_bytes }
+made version segments fine bank_bytes = record { directory = record { page = page_size_of version; segments = segments; fine = fine }; bank_bytes = bank_bytes }
 
 pub same_header : (xs ys : List ℕ) → Same xs ys → header_of xs ≡ header_of ys
 same_header xs ys same = cc (same_number xs ys 8 2 same, same_listed xs ys same, same_number xs ys 76 2 same, same_number xs ys 12 4 same)
@@ -49,7 +49,7 @@ behind_name image =
     within 8 2 (number_at image 8 2) 1 2
     ∷ within 10 2 (number_at image 10 2) 1 15
     ∷ within 12 4 (number_at image 12 4) 4096 131072
-    ∷ rest (page_of (number_at image 8 2)) image (segments_of image)
+    ∷ rest (page_size_of (number_at image 8 2)) image (segments_of image)
 
 same_spare : (page : PageSize) (xs ys : List ℕ) (count : ℕ) → Same xs ys → spare_fields page xs count ≡ spare_fields page ys count
 same_spare Two xs ys count same = same_zeros xs ys (16 + 4 * count) (112 - 4 * count) same
@@ -60,7 +60,7 @@ same_spare Four xs ys count same =
 
 same_behind : (xs ys : List ℕ) → Same xs ys → behind_name xs ≡ behind_name ys
 same_behind xs ys same =
-    let page = page_of (number_at ys 8 2) in
+    let page = page_size_of (number_at ys 8 2) in
     cc (same_number xs ys 8 2 same, same_number xs ys 10 2 same, same_number xs ys 12 4 same, same_listed xs ys same, same_spare page xs ys (length (segments_of ys)) same)
 
 -- of a name that isn't whole the bytes don't matter

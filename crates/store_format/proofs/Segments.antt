@@ -1,5 +1,5 @@
 -- The fields of segments are right exactly where the segments are a directory's.
-use Rattle.store_format.proofs.Common.{◌≡◌, ℕ, ◌+◌, ◌-◌, ◌≤◌, false, List, [], ◌∷◌, length, refl, subst, arith, None, All, nat_le, not, ◌&&◌, min, nat_tests, All-nil, All-cons, All-head, All-tail, fault_of, fault_after, is_strange, IsLegal, Field, within, segment_fields, first_fault, le-ltb, lt-leb, ne_eqb}
+use Rattle.store_format.proofs.Common.{◌≡◌, ℕ, ◌+◌, ◌-◌, ◌≤◌, false, List, [], ◌∷◌, length, refl, subst, arith, None, All, nat_le, not, ◌&&◌, min, nat_tests, All-nil, All-cons, All-head, All-tail, fault_of, fault_after, is_strange, AreSegmentsLegal, Field, within, segment_fields, first_fault, le-ltb, lt-leb, ne_eqb}
 use Rattle.lines.proofs.LegalLemmas.{first-fine, legal-none, none_legal}
 use Rattle.store_format.proofs.Checks.{none-append}
 
@@ -44,12 +44,12 @@ right_after (segment ∷ segments) at last pages few fine =
     (All-cons Stays second later (within_right segment.1 1 (min (1024 - pages) 128) here.2 (omega (arith, fits, here.3)))
     (subst (λ (n : ℕ). All Stays (segment_fields (at + 4) (segment.0 + 1) n segments)) room (right_after segments (at + 4) segment.0 (pages + segment.1) fits inner)))
 
-pub segments_legal : (segments : List (ℕ × ℕ)) → 1 ≤ length segments → length segments ≤ 15 → All Stays (segment_fields 16 1 1024 segments) → IsLegal segments
+pub segments_legal : (segments : List (ℕ × ℕ)) → 1 ≤ length segments → length segments ≤ 15 → All Stays (segment_fields 16 1 1024 segments) → AreSegmentsLegal segments
 segments_legal segments some few right =
     let fine : fault_of segments ≡ None = rw (le-ltb 15 (length segments) few, ne_eqb (length segments) 0 (omega (arith, some))) (fine_after segments 16 0 0 (omega arith) right) in
     legal-none segments fine
 
-pub legal_segments : (segments : List (ℕ × ℕ)) → IsLegal segments → All Stays (segment_fields 16 1 1024 segments)
+pub legal_segments : (segments : List (ℕ × ℕ)) → AreSegmentsLegal segments → All Stays (segment_fields 16 1 1024 segments)
 legal_segments segments legal =
     let fine : fault_after 0 0 segments ≡ None = (rw (le-ltb 15 (length segments) legal.few, ne_eqb (length segments) 0 (omega (arith, legal.some))) at (none_legal segments legal)) in
     right_after segments 16 0 0 (omega arith) fine

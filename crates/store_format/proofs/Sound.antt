@@ -1,5 +1,5 @@
 -- What a header without a fault says.
-use Rattle.store_format.proofs.Common.{◌≡◌, ℕ, zero, suc, ◌+◌, ◌*◌, ◌-◌, ◌^◌, ◌<◌, ◌≤◌, slice_index, true, List, [], ◌∷◌, ◌++◌, length, take, Bool, codes, ◌∙◌, ap, arith, inl, inr, Option, None, Some, All, min, nat_lt, nat_eq, not, is_some, if◌then◌else◌, starts_with, FlatStore, cases_eq, nat_tests, PageSize, Two, Four, IsLegal, AreFlags, flag_count, Header, number_at, within, name_field, segments_of, segment_fields, zeros, last_zeros, spare_fields, page_of, fields, first_fault, header_of, total, Bank, Stands, NotAStore, stands, standing_if, standing_by, All-head, All-tail, get_or-drop, length-drop, length-take, take-append-drop, big_number, pow_pos}
+use Rattle.store_format.proofs.Common.{◌≡◌, ℕ, zero, suc, ◌+◌, ◌*◌, ◌-◌, ◌^◌, ◌<◌, ◌≤◌, slice_index, true, List, [], ◌∷◌, ◌++◌, length, take, Bool, codes, ◌∙◌, ap, arith, inl, inr, Option, None, Some, All, min, nat_lt, nat_eq, not, is_some, if◌then◌else◌, starts_with, FlatStore, cases_eq, nat_tests, PageSize, Two, Four, AreSegmentsLegal, AreFlags, flag_count, Header, number_at, within, name_field, segments_of, segment_fields, zeros, last_zeros, spare_fields, page_size_of, fields, first_fault, header_of, total, BankContent, Stands, NotAStore, stands, standing_if, standing_by, All-head, All-tail, get_or-drop, length-drop, length-take, take-append-drop, big_number, pow_pos}
 use Rattle.std.proofs.lemmas.Slice.Eq.{starts_is}
 use Rattle.store_format.proofs.Checks.{none-append, right_number, length-segments_at}
 use Rattle.store_format.proofs.Segments.{Stays, right_within, segments_legal, stays_all}
@@ -9,8 +9,8 @@ pub record IsSound (head : List ℕ) : Type 0 where
   pub few : number_at head 10 2 ≤ 15
   pub least_bank : 4096 ≤ number_at head 12 4
   pub most_bank : number_at head 12 4 ≤ 131072
-  pub legal : IsLegal (segments_of head)
-  pub flags : AreFlags (page_of (number_at head 8 2)) (segments_of head) (number_at head 76 2)
+  pub legal : AreSegmentsLegal (segments_of head)
+  pub flags : AreFlags (page_size_of (number_at head 8 2)) (segments_of head) (number_at head 76 2)
 
 -- a byte among zeros
 zero_in : (head : List ℕ) (at bytes i : ℕ) → All Stays (zeros head at bytes) → at ≤ i → i < at + bytes → slice_index head i ≡ 0
@@ -39,7 +39,7 @@ flags_right Four head bytes count few none =
 pub sound_header : (head : List ℕ) (bytes : ℕ) → first_fault bytes (fields head) ≡ None → IsSound head
 sound_header head bytes none =
     let listed = segment_fields 16 1 1024 (segments_of head) in
-    let page = page_of (number_at head 8 2) in
+    let page = page_size_of (number_at head 8 2) in
     let spare = spare_fields page head (length (segments_of head)) in
     let version = within 8 2 (number_at head 8 2) 1 2 in
     let count = within 10 2 (number_at head 10 2) 1 15 in
@@ -79,10 +79,10 @@ stood_header image number store is = by_fault (first_fault (length image) (field
     header : Header
     header = header_of (take 128 image)
 
-    by_bank : (base : ℕ) (bank : Bank) → standing_by image header base bank ≡ Stands number store → (store.directory ≡ header.directory) × (number < 2 ^ 64)
+    by_bank : (base : ℕ) (bank : BankContent) → standing_by image header base bank ≡ Stands number store → (store.directory ≡ header.directory) × (number < 2 ^ 64)
     by_bank base bank is = grind (arith, nat_tests)
 
-    by_length : (short long : Bool) (less more base : ℕ) (bank : Bank) → (if short then NotAStore less else if long then NotAStore more else standing_by image header base bank) ≡ Stands number store → (store.directory ≡ header.directory) × (number < 2 ^ 64)
+    by_length : (short long : Bool) (less more base : ℕ) (bank : BankContent) → (if short then NotAStore less else if long then NotAStore more else standing_by image header base bank) ≡ Stands number store → (store.directory ≡ header.directory) × (number < 2 ^ 64)
     by_length short long less more base bank is = grind (arith, nat_tests, by_bank)
 
     by_fault : (fault : Option ℕ) → standing_if image fault header ≡ Stands number store → (fault ≡ None) × (store.directory ≡ header.directory) × (number < 2 ^ 64)
@@ -94,7 +94,7 @@ pub named_header : (image : List ℕ) → first_fault (length image) (fields (ta
 named_header image none =
     let head = take 128 image in
     let version = within 8 2 (number_at head 8 2) 1 2 in
-    let others = within 10 2 (number_at head 10 2) 1 15 ∷ within 12 4 (number_at head 12 4) 4096 131072 ∷ (segment_fields 16 1 1024 (segments_of head) ++ spare_fields (page_of (number_at head 8 2)) head (length (segments_of head))) in
+    let others = within 10 2 (number_at head 10 2) 1 15 ∷ within 12 4 (number_at head 12 4) 4096 131072 ∷ (segment_fields 16 1 1024 (segments_of head) ++ spare_fields (page_size_of (number_at head 8 2)) head (length (segments_of head))) in
     let name = none-append (length image) (name_field head ∷ []) (version ∷ others) none in
     let versions = none-append (length image) (version ∷ []) others name.1 in
     let right = right_number (length image) 8 2 (number_at head 8 2) 1 2 (ap (λ (fault : Option ℕ). is_some fault) versions.0) in

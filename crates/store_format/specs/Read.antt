@@ -3,8 +3,8 @@ use Rattle.std.specs.Prelude.{◌≡◌, ◌≢◌, ℕ, ◌-◌, List, ◌++◌
 use Rattle.outside.specs.declared.world.Outside.{Ghosts}
 use Rattle.outside.specs.Causes.{Rose}
 use Rattle.outside.specs.Runs.{IfTold, OnlyAsks}
-use Rattle.store_format.specs.declared.read.HeaderFault as code
-use Rattle.store_format.specs.declared.read.HeaderFault.TheVariants as fault
+use Rattle.store_format.specs.declared.header_reading.HeaderFault as code
+use Rattle.store_format.specs.declared.header_reading.HeaderFault.TheVariants as fault
 use Rattle.store_format.specs.Stands.{stands, NotAStore}
 
 -- the number of the bytes held, and the first 128 of them, with zeros where there are fewer

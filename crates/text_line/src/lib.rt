@@ -2,15 +2,15 @@
 //! two, and the line feed at its end (docs/FORMATS.md, "Report" and "Listing").
 #![tactic(auto)]
 
-mod word;
+mod line_words;
 
 ghost use Rattle.std.specs.Prelude.{◌≡◌, ◌+◌, ◌*◌, ◌≤◌, List, ℕ, [], ◌∷◌, ◌++◌, length, decimal};
 ghost use Rattle.hex.specs.Hex.{encode_lower};
 
 use arrayvec::ArrayVec;
 use itoa::Buffer;
+pub use line_words::{number, place_of};
 use std::marker::Model;
-pub use word::{number, place_of};
 
 /// Room for the longest line, a commit with 4,096 printed bytes, in bytes.
 pub const ROOM: usize = 8320;

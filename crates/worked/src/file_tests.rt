@@ -5,7 +5,7 @@ ghost use Rattle.real_files.specs.Found.{found_by};
 use call_status::Status;
 use file_runs::console_on_file;
 use outside::Failed;
-use real_files::{RawFile, RawScreen, ReadSource, Trace};
+use real_files::{FileTrace, RawFile, RawScreen, ReadSource};
 use std::alloc::{AllocError, Global};
 use std::test::Fail;
 use store_calls::try_store;
@@ -16,8 +16,8 @@ struct CountedFile {
     held: Vec<u8>,
     calls: u32,
     fails_at: u32,
-    found: Trace,
-    trace: Trace,
+    found: FileTrace,
+    trace: FileTrace,
 }
 
 impl CountedFile {
@@ -26,14 +26,14 @@ impl CountedFile {
         ensures first { ⟦<CountedFile as RawFile>⟧.first result ≡ bytes.now }
         ensures deeds { ⟦<CountedFile as RawFile>⟧.deeds result ≡ [] }
     {
-        let mut found = Trace::new();
+        let mut found = FileTrace::new();
         found.note(&[0, 0], bytes);
         CountedFile {
             held,
             calls: 0,
             fails_at,
             found,
-            trace: Trace::new(),
+            trace: FileTrace::new(),
         }
     }
 }
@@ -83,7 +83,7 @@ impl RawFile for CountedFile {
 #[derive(Drop)]
 struct KeptScreen {
     text: Vec<u8>,
-    trace: Trace,
+    trace: FileTrace,
 }
 
 impl RawScreen for KeptScreen {
@@ -188,7 +188,7 @@ fn call(alloc: Global, row: &Row, job: &str, held: &[u8]) -> Result<Left, AllocE
     let bytes = Vec::from_slice(alloc, held)?;
     let screen = KeptScreen {
         text: Vec::new(alloc),
-        trace: Trace::new(),
+        trace: FileTrace::new(),
     };
     let (ended, file, screen) = console_on_file(alloc, &words, &mut source, file, bytes, screen);
     Ok(Left {

@@ -1,6 +1,6 @@
 use Rattle.std.proofs.Common.{◌≡◌, ◌++◌, [], ◌∷◌, ℕ, zero, suc, List, take, Result, Ok, Err, OnErr, refl, ◌∙◌, ap, append_assoc}
 use Rattle.std.proofs.lemmas.Result.{on_err_weaker}
-use Rattle.call_status.specs.Statuses.{text_of}
+use Rattle.call_status.specs.Statuses.{error_text}
 use Rattle.real_files.specs.Deeds.{Deed, Wrote}
 use Rattle.real_files.specs.Shown.{printed_of}
 use Rattle.real_files.specs.ShownLaws.{printed_of-more}
@@ -26,7 +26,7 @@ returns-in_err-put-clause-failed g c =
     let failed = c.in_err-put.ensures.failed in
     let bytes = c.as_bytes.result.now in
     let its = part bytes failed.0 in
-    let same : bytes ≡ text_of c.args.status.now = c.as_bytes.ensures.value ∙ c.as_str.ensures.value ∙ c.status_text.ensures.text in
+    let same : bytes ≡ error_text c.args.status.now = c.as_bytes.ensures.value ∙ c.as_str.ensures.value ∙ c.status_text.ensures.text in
     on_err c.from_residual.result (
       its.0,
       ap printed_of failed.1 ∙ printed_of-more puts (Wrote 0 (take failed.0 bytes)) ∙ ap (λ (those : List ℕ). printed_of puts ++ those) its.1
@@ -37,7 +37,7 @@ pub returns-clause-failed : goal.returns-clause-failed
 returns-clause-failed g c =
     let puts = g.R.RawScreen.puts c.args.screen.now in
     let bytes = c.as_bytes.result.now in
-    let same : bytes ≡ text_of c.args.status.now = c.as_bytes.ensures.value ∙ c.as_str.ensures.value ∙ c.status_text.ensures.text in
+    let same : bytes ≡ error_text c.args.status.now = c.as_bytes.ensures.value ∙ c.as_str.ensures.value ∙ c.status_text.ensures.text in
     let first = c.in_ok-put.ensures.done in
     on_err_weaker c.put-2.result (λ failed.
     let its = whole bytes failed.0 in (

@@ -1,4 +1,4 @@
-use Rattle.console.proofs.Common.{◌≡◌, ◌⊎◌, List, [], inl, inr, subst, sym, Call, call, given, Status, TracedFrom, Command, IsForm, Made, Ended}
+use Rattle.console.proofs.Common.{◌≡◌, ◌⊎◌, List, [], inl, inr, subst, sym, Called, call, given, Status, TracedFrom, Command, IsForm, Made, Ended}
 use Rattle.desk.specs.Answers.{order_told}
 use Rattle.desk.specs.declared.answers.Committed.{Committed}
 use Rattle.console.specs.Did.{Does}
@@ -6,7 +6,7 @@ use Rattle.console.proofs.PromiseLemmas.{follow_ends, needs, one_form, renewal_e
 use Rattle.console.proofs.commands.console.Goals as goal
 
 -- a call that opened no session did what it did with this status, and with no order
-ended_so : {W : Type 0} (P : Call W → Type 0) (before after : W) (now : Status) (ended : Ended) → ended.order.items ≡ [] → ended.status ≡ now → P (call before after [] now) → P (call before after (order_told ended.order.items) ended.status)
+ended_so : {W : Type 0} (P : Called W → Type 0) (before after : W) (now : Status) (ended : Ended) → ended.order.items ≡ [] → ended.status ≡ now → P (call before after [] now) → P (call before after (order_told ended.order.items) ended.status)
 ended_so P before after now ended order status did =
     subst (λ (this : Status). P (call before after (order_told ended.order.items) this)) (sym status)
     (subst (λ (commits : List Committed). P (call before after (order_told commits) now)) (sym order) did)

@@ -1,4 +1,4 @@
-use Rattle.console.proofs.Common.{◌≡◌, ℕ, ◌+◌, ◌<◌, ◌≤◌, List, [], length, map, take, get_or, rules, arith, sym, ap, subst, ◌∙◌, flat_map, zip, sum, sum_by, take_all, get_or-map, length-map, Program, listing_of, lines_in, Puts, PutsTimes, done, puts_more, puts_no_more, times_on, content_of}
+use Rattle.console.proofs.Common.{◌≡◌, ℕ, ◌+◌, ◌<◌, ◌≤◌, List, [], length, map, take, get_or, rules, arith, sym, ap, subst, ◌∙◌, flat_map, zip, sum, sum_by, take_all, get_or-map, length-map, Program, listing_of, lines_in, PrintsBytes, PutsTimes, done, puts_more, puts_no_more, times_on, content_of}
 use Rattle.std.proofs.lemmas.List.Sums.{sum_by_more, sum-map}
 use Rattle.std.proofs.lemmas.Simd.{map-map}
 use Rattle.std.proofs.lemmas.Slice.Zip.{get_or-zip, length-zip}
@@ -69,7 +69,7 @@ pub returns-clause-puts : goal.returns-clause-puts
 returns-clause-puts g c =
     let names = c.args.job.now.names.items in let programs = c.args.job.now.programs.items in
     let all : length (named_in names programs) ≤ c.loop-index.index = omega (arith, count names programs c.requires, c.loop-index-test.false, ap (λ (these : List Program). length these) c.deref-program-items.ensures.value) in
-    subst (λ (these : List (List ℕ × Parts)). Puts g.W.Outside (flat_map listing_named these) c.args.outside.now c.loop-index.outside done)
+    subst (λ (these : List (List ℕ × Parts)). PrintsBytes g.W.Outside (flat_map listing_named these) c.args.outside.now c.loop-index.outside done)
     (take_all c.loop-index.index (named_in names programs) all)
     c.loop-index.invariant.puts
 

@@ -1,4 +1,4 @@
-use Rattle.romp_asm.proofs.Lemmas.{◌≡◌, ◌+◌, ◌∷◌, [], ◌++◌, List, length, take, sum_by, sym, ap, subst, ◌∙◌, arith, take_more, sum_by-take-le, sum_by_push, Statement, AreTables, IsTable, total, common_steps, tables_more}
+use Rattle.romp_asm.proofs.Lemmas.{◌≡◌, ◌+◌, ◌∷◌, [], ◌++◌, List, length, take, sum_by, sym, ap, subst, ◌∙◌, arith, take_more, sum_by-take-le, sum_by_push, Statement, AreTables, IsTable, total_size, common_steps, tables_more}
 use Rattle.romp_asm.proofs.value.tables_of.Goals as goal
 use Rattle.romp_asm.proofs.value.tables_of.Goals.{After-statements-item}
 
@@ -17,12 +17,12 @@ loop-statements-preserved c =
     let i = c.loop-statements.statements-index in
     let many = λ (source : List Statement). length source in
     let table = subst (λ n. IsTable c.in_ok-table.table n c.statements-item.result) c.loop-statements.invariant.address c.in_ok-table.ensures.table in
-    let start : c.in_ok-table.table.end ≡ c.loop-statements.address + total c.statements-item.result = c.in_ok-table.ensures.table.end in
+    let start : c.in_ok-table.table.end ≡ c.loop-statements.address + total_size c.statements-item.result = c.in_ok-table.ensures.table.end in
     record {
       tables = subst (λ (these : List _). AreTables c.push.new.self.items these) (sym (front at))
           (subst (λ (these : List _). AreTables these (take i c.args.sources.now ++ c.statements-item.result ∷ [])) (sym c.in_ok-push.ensures.items)
           (tables_more c.loop-statements.tables.items (take i c.args.sources.now) c.in_ok-table.table c.statements-item.result c.loop-statements.invariant.tables table));
-      address = omega (arith, start, c.loop-statements.invariant.address, ap (sum_by total) (front at), sum_by_push total (take i c.args.sources.now) c.statements-item.result);
+      address = omega (arith, start, c.loop-statements.invariant.address, ap (sum_by total_size) (front at), sum_by_push total_size (take i c.args.sources.now) c.statements-item.result);
       small = omega (arith, start, c.loop-statements.invariant.small, c.in_ok-table.ensures.small, ap (sum_by many) (front at), sum_by_push many (take i c.args.sources.now) c.statements-item.result);
     }
 

@@ -1,14 +1,14 @@
 use Rattle.schedule_replay.proofs.Lemmas.{PrintedNow, puts_on, puts_stop, puts_same, cycles_of}
-use Rattle.schedule_replay.proofs.Common.{◌≡◌, ℕ, List, [], ◌∷◌, ◌++◌, rules, ap, Result, Ok, flat_map, Failed, Ghosts, FewerLater, Cycle, Turn as Answer, counts_told, ending_told, cycle_lines, ending_lines, number_told, Puts}
-use Rattle.desk.specs.Lines.{Line, Turn}
+use Rattle.schedule_replay.proofs.Common.{◌≡◌, ℕ, List, [], ◌∷◌, ◌++◌, rules, ap, Result, Ok, flat_map, Failed, Ghosts, FewerLater, Cycle, Turn as Answer, counts_told, ending_told, cycle_lines, ending_lines, end_number, Puts}
+use Rattle.desk.specs.ReportLines.{ReportLine, Turn}
 use Rattle.schedule_replay.proofs.answer_lines.put_counted.Goals as goal
 
 -- the line of the counts, and those behind the rollbacks
-abbrev counts : ℕ → Answer → List Line
+abbrev counts : ℕ → Answer → List ReportLine
 counts activation turn = Turn activation turn.ran turn.pages turn.locks ∷ []
 
-abbrev ends : ℕ → Answer → List ℕ → List Line
-ends activation turn printed = ending_lines (number_told turn.end) activation (ending_told turn.end printed)
+abbrev ends : ℕ → Answer → List ℕ → List ReportLine
+ends activation turn printed = ending_lines (end_number turn.end) activation (ending_told turn.end printed)
 
 -- the counts are put, and the rollbacks
 rolled : {W T : Type 0} (G : Ghosts W) (printed_now : PrintedNow G) (fewer_later : FewerLater G) (activation : ℕ) (turn : Answer) (cycles : List Cycle) (old mid new : W) (value : Unit {0}) (result : Result T Failed) → cycles ≡ turn.cycles.items → Puts G (counts activation turn) old mid (Ok value) → Puts G (cycles_of cycles) mid new result → Puts G (counts activation turn ++ flat_map cycle_lines (counts_told turn).cycles) old new result

@@ -1,6 +1,6 @@
 use Rattle.schedule_replay.proofs.Lemmas.{ℕ, ◌∷◌, [], ap, rules, puts_on, puts_stop, puts_same}
 use Rattle.lines.specs.Waits.{victim_of}
-use Rattle.desk.specs.Lines.{Cycle, Victim}
+use Rattle.desk.specs.ReportLines.{Cycle, Victim}
 use Rattle.schedule_replay.proofs.answer_lines.put_cycle.Goals as goal
 
 pub returns-in_err-put_one : goal.returns-in_err-put_one

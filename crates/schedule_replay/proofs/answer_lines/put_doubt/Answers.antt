@@ -1,5 +1,5 @@
 use Rattle.schedule_replay.proofs.Lemmas.{◌∷◌, [], rules, puts_on, puts_stop}
-use Rattle.desk.specs.Lines.{Doubt, Closed}
+use Rattle.desk.specs.ReportLines.{Doubt, Closed}
 use Rattle.schedule_replay.proofs.answer_lines.put_doubt.Goals as goal
 
 pub returns-in_err-put_one : goal.returns-in_err-put_one

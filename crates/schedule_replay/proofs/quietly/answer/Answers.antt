@@ -1,4 +1,4 @@
-use Rattle.schedule_replay.proofs.Lemmas.{rules, [], length, refl, begun_told, turn_told, stored_told, happening_lines, number_told, stored_number, last_by, tally_begun, tally_by, tally_stored, arith, common_steps, begin_step, turn_step, checkpoint_step, begin_tells, turn_tells, stored_tells, went_quietly}
+use Rattle.schedule_replay.proofs.Lemmas.{rules, [], length, refl, begun_told, turn_told, stored_told, happening_lines, end_number, stored_number, last_by, tally_begun, tally_by, tally_stored, arith, common_steps, begin_step, turn_step, checkpoint_step, begin_tells, turn_tells, stored_tells, went_quietly}
 use Rattle.desk.specs.declared.event.Event.TheVariants as event
 use Rattle.schedule_replay.proofs.quietly.answer.Goals as goal
 
@@ -22,9 +22,9 @@ returns-in-Turn g c = record {
       let S = g.S.Supervisor in let turn = c.turn-turn in let printed = (S.told turn.new.self).printed in
       let at = (S.told c.args.desk.now).fixed in let ends = turn.result.end in let activation = c.in-Turn.activation in
       let last = c.args.last.now.items in
-      went_quietly S g.W.Outside g.met.W.Outside.fewer_later at.programs at.opened c.args.event (event.Turn activation c.in-Turn.limit) (happening_lines [] (number_told ends) (turn_told activation turn.result printed)) start turn.new.self c.args.outside.now turn.new.outside last c.keep_printed.new.last.items (last_by ends printed last) c.tally_of_turn.result (tally_by ends (length turn.result.cycles.items)) c.in-Turn.is c.keep_printed.ensures c.tally_of_turn.ensures
+      went_quietly S g.W.Outside g.met.W.Outside.fewer_later at.programs at.opened c.args.event (event.Turn activation c.in-Turn.limit) (happening_lines [] (end_number ends) (turn_told activation turn.result printed)) start turn.new.self c.args.outside.now turn.new.outside last c.keep_printed.new.last.items (last_by ends printed last) c.tally_of_turn.result (tally_by ends (length turn.result.cycles.items)) c.in-Turn.is c.keep_printed.ensures c.tally_of_turn.ensures
       (turn_step S g.W.Outside [] at.programs at.opened start turn.new.self c.args.outside.now turn.new.outside activation c.in-Turn.limit turn.result printed (turn.ensures.did start sure shows) turn.ensures.writes turn.ensures.failed)
-      (turn_tells (number_told ends) activation turn.result ends printed last);
+      (turn_tells (end_number ends) activation turn.result ends printed last);
 }
 
 pub returns-in-Checkpoint : goal.returns-in-Checkpoint

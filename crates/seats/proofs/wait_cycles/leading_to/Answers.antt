@@ -1,4 +1,4 @@
-use Rattle.seats.proofs.Common.{◌≡◌, ◌≤◌, ◌+◌, ◌-◌, ◌&&◌, ℕ, Bool, List, nat_lt, length, arith, ap, ◌∙◌, refl, leads, is_on, waits_in, places_of}
+use Rattle.seats.proofs.Common.{◌≡◌, ◌≤◌, ◌+◌, ◌-◌, ◌&&◌, ℕ, Bool, List, nat_lt, length, arith, ap, ◌∙◌, refl, leads, is_on, waits_in, row_places}
 use Rattle.seats.proofs.RowBits.{Leading, leads-more, leads-still}
 use Rattle.seats.proofs.wait_cycles.leading_to.Goals as goal
 
@@ -10,7 +10,7 @@ loop-step-preserved c = λ p below.
 
 -- a walk of some steps is one of as many as there are rows
 by_all : (waits : List ℕ) (to leading steps : ℕ) → steps ≡ length waits → (few : length waits ≤ 16) → Leading (waits_in waits) (length waits) few to leading steps → Leading (waits_in waits) (length waits) few to leading (length waits)
-by_all waits to leading steps all few so_far = λ p below. so_far p below ∙ ap (λ (count : ℕ). nat_lt p (length waits) && leads (waits_in waits) (places_of waits) count p to) all
+by_all waits to leading steps all few so_far = λ p below. so_far p below ∙ ap (λ (count : ℕ). nat_lt p (length waits) && leads (waits_in waits) (row_places waits) count p to) all
 
 pub returns-then-next-leading : goal.returns-then-next-leading
 returns-then-next-leading c = λ place below.

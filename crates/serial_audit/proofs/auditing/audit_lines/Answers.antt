@@ -1,4 +1,4 @@
-use Rattle.serial_audit.proofs.Lemmas.{ℕ, ◌+◌, take, drop, ◌∙◌, refl, ap, arith, report_told, told_of, common_steps, none_sound, sound_more, told_all, told_more}
+use Rattle.serial_audit.proofs.Lemmas.{ℕ, ◌+◌, take, drop, ◌∙◌, refl, ap, arith, report_told, line_claim, common_steps, none_sound, sound_more, told_all, told_more}
 use Rattle.serial_audit.proofs.auditing.audit_lines.Goals as goal
 
 pub loop-commit-init : goal.loop-commit-init
@@ -15,7 +15,7 @@ returns-in-None-clause-sound c =
     let lines = c.args.lines.now in
     record {
       before = report_told (take i lines);
-      told = told_of c.commit-item.result;
+      told = line_claim c.commit-item.result;
       behind = report_told (drop (i + 1) lines);
       lines_are = told_all lines i c.commit-item.result c.loop-commit-test.true c.commit-item.is;
       place = c.next_place-place.ensures ∙ ap (λ (n : ℕ). n + 1) c.loop-commit.invariant.stands.commits_are;
@@ -29,7 +29,7 @@ loop-commit-preserved c =
     let taken = rw c.in-Some.is at (c.in_ok-next.ensures.taken c.args.job.now c.args.opening.now before refl c.loop-commit.invariant.stands) in
     let whole = rw c.in-Some.is at c.in_ok-next.ensures.whole in
     rw (told_more c.args.lines.now c.loop-commit.commit-index c.commit-item.result c.loop-commit-test.true c.commit-item.is) (record {
-      sound = sound_more c.args.job.now c.args.opening.now before (told_of c.commit-item.result) c.loop-commit.invariant.sound taken.0;
+      sound = sound_more c.args.job.now c.args.opening.now before (line_claim c.commit-item.result) c.loop-commit.invariant.sound taken.0;
       stands = taken.1;
       few = omega (arith, c.loop-commit.invariant.few, rw c.in-Some.is at c.in_ok-next.ensures.one);
       whole = whole;

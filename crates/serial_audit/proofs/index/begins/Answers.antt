@@ -1,4 +1,4 @@
-use Rattle.serial_audit.proofs.Lemmas.{◌+◌, false, List, [], ◌∷◌, ◌++◌, map, drop, refl, sym, ◌∙◌, ap, append_assoc, map-append, slice_get_past, Begin, Activation, begun, Entry, activation_in, arith, common_steps, begun_here, begun_later, begun_none, IsFresh, All-push, slice_get_read}
+use Rattle.serial_audit.proofs.Lemmas.{◌+◌, false, List, [], ◌∷◌, ◌++◌, map, drop, refl, sym, ◌∙◌, ap, append_assoc, map-append, slice_get_past, Begin, Activation, begun, Allowance, activation_in, arith, common_steps, begun_here, begun_later, begun_none, IsFresh, All-push, slice_get_read}
 use Rattle.serial_audit.proofs.index.begins.Goals as goal
 use Rattle.serial_audit.proofs.index.begins.Goals.{in-Begin+in-Some+in_ok-push-in-Some, in-Begin+in-None, in_default}
 
@@ -12,7 +12,7 @@ loop-event-preserved c =
       | in-Begin+in-Some+in_ok-push-in-Some w ↦
           let look = w.in-Some.ensures.lookup in
           let found = rw w.from.ensures at (slice_get_read programs _ w.from.result w.in-Some.program.now refl look.3.0 look.1) in
-          let entry : Entry = record { program = w.in-Some.program; args = w.in-Begin.args; steps = 0; committed = false } in
+          let entry : Allowance = record { program = w.in-Some.program; args = w.in-Begin.args; steps = 0; committed = false } in
           let activation : Activation = record { program = w.in-Some.program.now; args = w.in-Begin.args } in
           let rest = begun programs (drop (i + 1) events) in
           rw (w.entries-is, w.in_ok-push-in-Some.ensures.items) (record {

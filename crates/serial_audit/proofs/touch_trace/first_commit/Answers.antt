@@ -1,4 +1,4 @@
-use Rattle.serial_audit.proofs.Common.{◌+◌, take, drop, take_all, report_told, told_of}
+use Rattle.serial_audit.proofs.Common.{◌+◌, take, drop, take_all, report_told, line_claim}
 use Rattle.serial_audit.proofs.VerdictLemmas.{told_all, told_more, none_more}
 use Rattle.serial_audit.proofs.touch_trace.first_commit.Goals as goal
 
@@ -18,7 +18,7 @@ returns-then-commit-activation c =
 pub loop-place-preserved : goal.loop-place-preserved
 loop-place-preserved c =
     rw (told_more c.args.report.now c.loop-place.place c.index-report-place.result c.loop-place-test.true c.index-report-place.is)
-    (none_more (report_told (take c.loop-place.place c.args.report.now)) (told_of c.index-report-place.result) c.args.activation c.loop-place.invariant c.if-commit-activation.false)
+    (none_more (report_told (take c.loop-place.place c.args.report.now)) (line_claim c.index-report-place.result) c.args.activation c.loop-place.invariant c.if-commit-activation.false)
 
 pub returns : goal.returns
 returns c = rw (take_all c.loop-place.place c.args.report.now c.loop-place-test.false) at c.loop-place.invariant

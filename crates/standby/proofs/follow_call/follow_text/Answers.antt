@@ -1,15 +1,15 @@
-use Rattle.standby.proofs.Common.{◌≡◌, inr, length, refl, sym, ap, subst, arith, length-map, elapses-trans, OnlyAsks, content_of, later, record_of}
+use Rattle.standby.proofs.Common.{◌≡◌, inr, length, refl, sym, ap, subst, arith, length-map, elapses-trans, OnlyAsks, ship_content, later, record_of}
 use Rattle.standby.proofs.FollowCallLemmas.{followed_disk, followed_done, followed_put, not_opened}
 use Rattle.standby.proofs.follow_call.follow_text.Goals as goal
 
 pub returns-in-Err-clause-on : goal.returns-in-Err-clause-on
 returns-in-Err-clause-on g c =
-    not_opened g.W.Outside g.met.W.Outside.fewer_later g.met.W.Outside.printed_now (content_of c.args.ship.now) c.args.outside.now c.open.new.outside c.in-Err.ensures.asks.asks c.in-Err.fault c.from.result c.from.ensures c.in-Err.ensures.asks.fault
+    not_opened g.W.Outside g.met.W.Outside.fewer_later g.met.W.Outside.printed_now (ship_content c.args.ship.now) c.args.outside.now c.open.new.outside c.in-Err.ensures.asks.asks c.in-Err.fault c.from.result c.from.ensures c.in-Err.ensures.asks.fault
 
 pub returns-in-Done-clause-on : goal.returns-in-Done-clause-on
 returns-in-Done-clause-on g c = (
   λ told. record { store = c.in-Ok.store; shows = c.in-Ok.ensures.opened.shows told; due_on = c.in-Done.ensures.found },
-  followed_done g.W.Outside g.met.W.Outside.fewer_later g.met.W.Outside.printed_now (content_of c.args.ship.now) c.args.outside.now c.open.new.outside c.in-Ok.ensures.asks.asks
+  followed_done g.W.Outside g.met.W.Outside.fewer_later g.met.W.Outside.printed_now (ship_content c.args.ship.now) c.args.outside.now c.open.new.outside c.in-Ok.ensures.asks.asks
       c.in-Ok.store c.follow.new.durable c.in-Ok.ensures.opened.shows c.in-Ok.ensures.opened.tracks c.follow.new.outside c.in-Done.ensures.only.time
       c.requires.content.number c.in-Done.ensures.found.1 c.in-Done.ensures.header (c.in-Done.ensures.kept refl) c.in-Done.ensures.follows,
 )
@@ -20,7 +20,7 @@ returns-in-Done-clause-time g c =
 
 pub returns-in-NotKept-clause-on : goal.returns-in-NotKept-clause-on
 returns-in-NotKept-clause-on g c =
-    let many : c.len.result ≡ length (content_of c.args.ship.now).records = omega (arith, c.len.ensures, length-map c.args.ship.now.records.items (record_of c.args.ship.now.line_bytes)) in
+    let many : c.len.result ≡ length (ship_content c.args.ship.now).records = omega (arith, c.len.ensures, length-map c.args.ship.now.records.items (record_of c.args.ship.now.line_bytes)) in
     let found = c.in-NotKept.ensures.found in
     λ told. record { store = c.in-Ok.store; shows = c.in-Ok.ensures.opened.shows told; due_on = (refl, ap (later c.args.ship.now.start) many, found.0, found.1) }
 
@@ -41,7 +41,7 @@ returns-in-Long-clause-time g c =
 pub returns-in-DiskFault-clause-on : goal.returns-in-DiskFault-clause-on
 returns-in-DiskFault-clause-on g c = (
   inr (λ told. record { store = c.in-Ok.store; shows = c.in-Ok.ensures.opened.shows told; due_on = c.in-DiskFault.ensures.found }),
-  followed_disk g.W.Outside g.met.W.Outside.fewer_later g.met.W.Outside.printed_now (content_of c.args.ship.now) c.args.outside.now c.open.new.outside c.in-Ok.ensures.asks.asks
+  followed_disk g.W.Outside g.met.W.Outside.fewer_later g.met.W.Outside.printed_now (ship_content c.args.ship.now) c.args.outside.now c.open.new.outside c.in-Ok.ensures.asks.asks
       c.in-Ok.store c.follow.new.durable c.in-Ok.ensures.opened.shows c.in-Ok.ensures.opened.tracks c.follow.new.outside c.in-DiskFault.ensures.only.time c.in-DiskFault.ensures.follows,
 )
 
@@ -52,7 +52,7 @@ returns-in-DiskFault-clause-time g c =
 pub returns-clause-on : goal.returns-clause-on
 returns-clause-on g c = (
   λ told. record { store = c.in-Ok.store; shows = c.in-Ok.ensures.opened.shows told; due_on = c.in-PutFault.ensures.found },
-  followed_put g.W.Outside g.met.W.Outside.fewer_later g.met.W.Outside.printed_now (content_of c.args.ship.now) c.args.outside.now c.open.new.outside c.in-Ok.ensures.asks.asks
+  followed_put g.W.Outside g.met.W.Outside.fewer_later g.met.W.Outside.printed_now (ship_content c.args.ship.now) c.args.outside.now c.open.new.outside c.in-Ok.ensures.asks.asks
       c.in-Ok.store c.follow.new.durable c.in-Ok.ensures.opened.shows c.in-Ok.ensures.opened.tracks c.follow.new.outside c.in-PutFault.ensures.only.time c.in-PutFault.ensures.follows,
 )
 

@@ -1,5 +1,5 @@
 use Rattle.standby.proofs.Common.{elements, rules, All, length, line_bytes}
-use Rattle.standby.proofs.Lemmas.{arith, ◌≡◌, ◌<◌, ℕ, List, [], refl, subst, sym, ◌∙◌, ap, on_ok, RecordLine, PrintsBy, broken, feeds, line_line, prints_unput, shows_asks, shows_on, shows_line, by_put, prints_by, quiet_by}
+use Rattle.standby.proofs.Lemmas.{arith, ◌≡◌, ◌<◌, ℕ, List, [], refl, subst, sym, ◌∙◌, ap, on_ok, RecordLine, ShipPrintsBy, broken, feeds, line_line, prints_unput, shows_asks, shows_on, shows_line, by_put, prints_by, quiet_by}
 use Rattle.standby.proofs.shipping.put_one.Goals as goal
 
 pub returns : goal.returns
@@ -17,7 +17,7 @@ returns g c = record {
       let same : read.one ≡ one = cc in
       let text : c.as_slice.result.now ≡ line_line one.line one.bytes =
       c.as_slice.ensures ∙ c.fill_line.ensures.text ∙ ap (λ (n : ℕ). line_line n c.line_at.new.into) read.number ∙ ap (λ (bytes : List ℕ). line_line read.one.line bytes) read.bytes_are ∙ ap (λ (that : RecordLine). line_line that.line that.bytes) same in
-      subst (λ (bytes : List ℕ). PrintsBy G bytes c.args.outside.now c.put_line.new.outside c.put_line.result) text
+      subst (λ (bytes : List ℕ). ShipPrintsBy G bytes c.args.outside.now c.put_line.new.outside c.put_line.result) text
       (prints_by G c.args.outside.now c.line_at.new.outside c.put_line.new.outside [] c.as_slice.result.now c.put_line.result (quiet_by G c.args.outside.now c.line_at.new.outside c.line_at.ensures.asks.calls)
       (by_put G c.as_slice.result.now c.line_at.new.outside c.put_line.new.outside c.put_line.result (ap feeds c.as_slice.ensures ∙ c.fill_line.ensures.one) c.put_line.ensures.puts));
 }

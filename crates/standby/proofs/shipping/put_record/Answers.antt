@@ -1,5 +1,5 @@
 use Rattle.standby.proofs.Common.{rules}
-use Rattle.standby.proofs.Lemmas.{◌≡◌, ℕ, ◌+◌, ◌<◌, List, [], ◌++◌, length, take, drop, get_or, refl, sym, subst, ◌∙◌, ap, arith, append-nil, Ok, Option, Some, slice_get, unwrap_or, length-map, take_all, slice_get-get_or, line_bytes, RecordLine, Prints, PrintsBy, Ghosts, feeds, held_of, prints_on, prints_same, prints_stop, Record, IsRecordAt, KeptStore, IsShown, broken, HasBytes, ShipLine, line_line, lines_text, record_line, told, shows_on, one_feed, record_is_line, by_put, prints_by, shows_line, still_shown}
+use Rattle.standby.proofs.Lemmas.{◌≡◌, ℕ, ◌+◌, ◌<◌, List, [], ◌++◌, length, take, drop, get_or, refl, sym, subst, ◌∙◌, ap, arith, append-nil, Ok, Option, Some, slice_get, unwrap_or, length-map, take_all, slice_get-get_or, line_bytes, RecordLine, Prints, ShipPrintsBy, Ghosts, feeds, held_of, prints_on, prints_same, prints_stop, Record, IsRecordAt, StoreView, IsShown, broken, HasBytes, ShipLine, line_line, lines_text, record_line, told, shows_on, one_feed, record_is_line, by_put, prints_by, shows_line, still_shown}
 use Rattle.standby.proofs.ShipLemmas.{all_more, text_more, text_rest, there_still}
 use Rattle.standby.proofs.shipping.put_record.Goals as goal
 
@@ -21,7 +21,7 @@ returns-in-Err g c = record {
 }
 
 -- what is said of each line where the record lies still is said of the next one
-said : {W : Type 0} (G : Ghosts W) (store : KeptStore) (entry : Record) (i : ℕ) (old mid : W) (shown : IsShown G store old) (at : IsRecordAt (held_of G old) store.bank entry.place) (P : RecordLine → Type 0)
+said : {W : Type 0} (G : Ghosts W) (store : StoreView) (entry : Record) (i : ℕ) (old mid : W) (shown : IsShown G store old) (at : IsRecordAt (held_of G old) store.bank entry.place) (P : RecordLine → Type 0)
     → entry.count ≡ length at.lines → G.held mid ≡ G.held old → i < entry.count
     → ((shown : IsShown G store mid) (at : IsRecordAt (held_of G mid) store.bank entry.place) → entry.count ≡ length at.lines → (one : RecordLine) → slice_get at.lines i ≡ Some one → P one)
     → P (get_or at.lines i no_record)
@@ -58,7 +58,7 @@ loop-index-init g c =
       only = shows_line g.W.Outside c.as_slice.result.now c.args.outside.now c.put_line.new.outside (Ok tt) c.in-Ok.ensures.puts;
       disk = c.in-Ok.ensures.puts.only.disk;
       put = c.in-Ok.ensures.puts.only.cause.done;
-      so_far = λ shown at many. subst (λ (bytes : List ℕ). PrintsBy {T = Unit {0}} g.W.Outside bytes c.args.outside.now c.put_line.new.outside (Ok tt)) (text ∙ sym (append-nil line)) (by_put g.W.Outside c.as_slice.result.now c.args.outside.now c.put_line.new.outside (Ok tt) one c.in-Ok.ensures.puts);
+      so_far = λ shown at many. subst (λ (bytes : List ℕ). ShipPrintsBy {T = Unit {0}} g.W.Outside bytes c.args.outside.now c.put_line.new.outside (Ok tt)) (text ∙ sym (append-nil line)) (by_put g.W.Outside c.as_slice.result.now c.args.outside.now c.put_line.new.outside (Ok tt) one c.in-Ok.ensures.puts);
       bytes = λ shown at many k d lt. absurd (omega (arith, lt));
     }
 
@@ -73,9 +73,9 @@ loop-index-preserved g c =
       so_far = λ shown at many.
           let lt : i < length at.lines = omega (arith, many, c.loop-index-test.true) in
           let one = get_or at.lines i no_record in let head = record_line c.args.number c.args.entry.now.count in
-          subst (λ (bytes : List ℕ). PrintsBy {T = Unit {0}} G bytes old c.put_one.new.outside (Ok tt)) (text_more head at.lines i one lt (slice_get-get_or at.lines i no_record lt))
+          subst (λ (bytes : List ℕ). ShipPrintsBy {T = Unit {0}} G bytes old c.put_one.new.outside (Ok tt)) (text_more head at.lines i one lt (slice_get-get_or at.lines i no_record lt))
           (prints_by G old mid c.put_one.new.outside (head ++ lines_text (take i (told at.lines))) (line_line one.line one.bytes) (Ok tt) (c.loop-index.invariant.so_far shown at many)
-          (said G c.args.durable.now c.args.entry.now i old mid shown at (λ (one : RecordLine). PrintsBy {T = Unit {0}} G (line_line one.line one.bytes) mid c.put_one.new.outside (Ok tt)) many c.loop-index.invariant.only.held c.loop-index-test.true c.in-Ok-put_one.ensures.prints));
+          (said G c.args.durable.now c.args.entry.now i old mid shown at (λ (one : RecordLine). ShipPrintsBy {T = Unit {0}} G (line_line one.line one.bytes) mid c.put_one.new.outside (Ok tt)) many c.loop-index.invariant.only.held c.loop-index-test.true c.in-Ok-put_one.ensures.prints));
       bytes = λ shown at many.
           all_more (HasBytes (line_bytes c.args.durable.now.header.directory.page)) at.lines i no_record (omega (arith, many, c.loop-index-test.true)) (c.loop-index.invariant.bytes shown at many)
           (said G c.args.durable.now c.args.entry.now i old mid shown at (HasBytes (line_bytes c.args.durable.now.header.directory.page)) many c.loop-index.invariant.only.held c.loop-index-test.true c.in-Ok-put_one.ensures.bytes);
@@ -87,7 +87,7 @@ returns g c = record {
   prints = λ shown at many.
       let head = record_line c.args.number c.args.entry.now.count in
       let bare = λ (one : RecordLine). let it : ShipLine = record { line = one.line; bytes = one.bytes } in it in
-      subst (λ (bytes : List ℕ). PrintsBy {T = Unit {0}} g.W.Outside bytes c.args.outside.now c.loop-index.outside (Ok tt))
+      subst (λ (bytes : List ℕ). ShipPrintsBy {T = Unit {0}} g.W.Outside bytes c.args.outside.now c.loop-index.outside (Ok tt))
       (ap (λ (these : List ShipLine). head ++ lines_text these) (take_all c.loop-index.index (told at.lines) (omega (arith, many, c.loop-index-test.false, length-map at.lines bare)))
       ∙ ap (λ (first : List ℕ). first ++ lines_text (told at.lines)) (counts c.args.number c.args.entry.now.count at.lines many))
       (c.loop-index.invariant.so_far shown at many);

@@ -1,5 +1,5 @@
 use Rattle.standby.proofs.Common.{rules}
-use Rattle.standby.proofs.Lemmas.{◌≡◌, ⊎_elim, ℕ, ◌+◌, ◌-◌, ◌<◌, List, [], ◌++◌, length, map, take, drop, get_or, refl, sym, subst, ◌∙◌, ap, arith, get_or-drop, length-drop, length-map, take-append-drop, take_all, line_bytes, RecordLine, Prints, prints_on, prints_same, prints_stop, prints_none, prints_unput, HasBytes, Ok, PrintsBy, broken, later, record_text, records_text, told, shows_asks, shows_none, shows_on, held_of, IsCounted, IsRecordAt, area_bytes, IsShown, All, ◌%◌, ◌^◌, ◌≤◌, Option, nat_tests, prints_by, quiet_by, all_more, area_more, later_later, next_is, records_more, records_rest, records_split, there_in}
+use Rattle.standby.proofs.Lemmas.{◌≡◌, ⊎_elim, ℕ, ◌+◌, ◌-◌, ◌<◌, List, [], ◌++◌, length, map, take, drop, get_or, refl, sym, subst, ◌∙◌, ap, arith, get_or-drop, length-drop, length-map, take-append-drop, take_all, line_bytes, RecordLine, Prints, prints_on, prints_same, prints_stop, prints_none, prints_unput, HasBytes, Ok, ShipPrintsBy, broken, later, record_text, records_text, told, shows_asks, shows_none, shows_on, held_of, IsCounted, IsRecordAt, area_bytes, IsShown, All, ◌%◌, ◌^◌, ◌≤◌, Option, nat_tests, prints_by, quiet_by, all_more, area_more, later_later, next_is, records_more, records_rest, records_split, there_in}
 use Rattle.standby.proofs.shipping.put_records.Given.{Over}
 use Rattle.standby.proofs.shipping.put_records.Goals as goal
 use Rattle.standby.proofs.shipping.put_records.Goals.{In-Ok}
@@ -14,7 +14,7 @@ loop-index-init g c =
       inside = c.requires.inside;
       place = λ shown is. is;
       so_far = λ shown is.
-          subst (λ (n : ℕ). PrintsBy {T = Unit {0}} g.W.Outside (records_text (later c.args.durable.now.bank.base c.args.passed) (take n (map told (drop c.args.passed shown.shows.read.records)))) c.args.outside.now c.args.outside.now (Ok tt)) (sym none)
+          subst (λ (n : ℕ). ShipPrintsBy {T = Unit {0}} g.W.Outside (records_text (later c.args.durable.now.bank.base c.args.passed) (take n (map told (drop c.args.passed shown.shows.read.records)))) c.args.outside.now c.args.outside.now (Ok tt)) (sym none)
           (prints_none (g.W.Outside.printed c.args.outside.now) tt, λ told. omega arith);
       bytes = λ shown is. subst (λ (n : ℕ). All (λ lines. All (HasBytes (line_bytes c.args.durable.now.header.directory.page)) lines) (take n (drop c.args.passed shown.shows.read.records))) (sym none) (λ k d lt. absurd (omega (arith, lt)));
     }
@@ -102,10 +102,10 @@ loop-index-preserved g c =
           let at = lies g here shown (c.loop-index.invariant.place shown is) in
           let text = text_is c.args.durable.now.bank.base c.args.passed index ((c.base.result + (c.from.result + 1)) % 2 ^ 64) shown.shows.read.records at.1.0.lines le (omega (arith, c.base.ensures, c.from.ensures)) at.1.1.0 in
           let line = record_text (later number (i + 1)) (told (get_or behind i [])) in
-          subst (λ (bytes : List ℕ). PrintsBy {T = Unit {0}} G bytes old c.put_record.new.outside (Ok tt))
+          subst (λ (bytes : List ℕ). ShipPrintsBy {T = Unit {0}} G bytes old c.put_record.new.outside (Ok tt))
           (records_more number behind i (omega (arith, within g here shown, le, length-drop c.args.passed shown.shows.read.records)) ∙ ap (λ (n : ℕ). records_text number (take n (map told behind))) on)
           (prints_by G old loop c.put_record.new.outside (records_text number (take i (map told behind))) line (Ok tt) (c.loop-index.invariant.so_far shown is)
-          (prints_by G loop mid c.put_record.new.outside [] line (Ok tt) (quiet_by G loop mid c.record_at.ensures.asks.calls) (subst (λ (bytes : List ℕ). PrintsBy {T = Unit {0}} G bytes mid c.put_record.new.outside (Ok tt)) text (c.in-Ok-put_record.ensures.prints at.0 at.1.0 at.1.1.1))));
+          (prints_by G loop mid c.put_record.new.outside [] line (Ok tt) (quiet_by G loop mid c.record_at.ensures.asks.calls) (subst (λ (bytes : List ℕ). ShipPrintsBy {T = Unit {0}} G bytes mid c.put_record.new.outside (Ok tt)) text (c.in-Ok-put_record.ensures.prints at.0 at.1.0 at.1.1.1))));
       bytes = λ shown is.
           let behind = drop c.args.passed shown.shows.read.records in
           let at = lies g here shown (c.loop-index.invariant.place shown is) in
@@ -120,7 +120,7 @@ returns g c = record {
   prints = λ shown is.
       let number = later c.args.durable.now.bank.base c.args.passed in
       let behind = drop c.args.passed shown.shows.read.records in
-      subst (λ (bytes : List ℕ). PrintsBy {T = Unit {0}} g.W.Outside bytes c.args.outside.now c.loop-index.outside (Ok tt))
+      subst (λ (bytes : List ℕ). ShipPrintsBy {T = Unit {0}} g.W.Outside bytes c.args.outside.now c.loop-index.outside (Ok tt))
       (ap (records_text number) (take_all (c.loop-index.index - c.args.passed) (map told behind) (omega (arith, shown.shows.read.count, c.loop-index-test.false, c.records-index-end.ensures, length-map behind told, length-drop c.args.passed shown.shows.read.records))))
       (c.loop-index.invariant.so_far shown is);
   bytes = λ shown is. grind (arith, take_all (c.loop-index.index - c.args.passed) (drop c.args.passed shown.shows.read.records) (omega (arith, shown.shows.read.count, c.loop-index-test.false, c.records-index-end.ensures, length-drop c.args.passed shown.shows.read.records)), c.loop-index.invariant.bytes shown is);

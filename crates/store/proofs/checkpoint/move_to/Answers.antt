@@ -1,11 +1,11 @@
-use Rattle.store.proofs.Lemmas.{common_steps, ◌≡◌, ℕ, ◌∷◌, [], List, length, sym, subst, ◌∙◌, ap, arith, IsTrue, Bool, line_count, Which, bank_at, Torn, written, IsSure, Leaves, OnlyAsks, held_of, leaves_on, leaves_same, asks_one, OnlyWrites, place_of, end_of, TracksBank, head_bytes, place_is, held_is, writes_on, asks_only, other, selector_of, IsCovered, IsHomed, IsSame, leaves_step, same_held, written_held, synced_sure, IsHeaded, covered_same, headed_same, headed, selected_same, IsThere, moved, end_within, on_ok_weaker}
-use Rattle.store.specs.Kept.{number_of}
+use Rattle.store.proofs.Lemmas.{common_steps, ◌≡◌, ℕ, ◌∷◌, [], List, length, sym, subst, ◌∙◌, ap, arith, IsTrue, Bool, line_count, Which, bank_at, Torn, written, IsSure, Leaves, OnlyAsks, held_of, leaves_on, leaves_same, asks_one, OnlyWrites, bank_place, end_of, TracksBank, head_bytes, place_is, held_is, writes_on, asks_only, other, selector_of, IsHomeCovered, IsHomed, IsSame, leaves_step, same_held, written_held, synced_sure, IsHeaded, covered_same, headed_same, headed, selected_same, IsThere, moved, end_within, on_ok_weaker}
+use Rattle.store.specs.Kept.{bank_number}
 use Rattle.store.proofs.checkpoint.move_to.Given.{Over}
 use Rattle.store.proofs.checkpoint.move_to.Goals as goal
 use Rattle.store.proofs.checkpoint.move_to.Goals.{After-write_head, After-sync, After-write_selector}
 
 -- where the other bank lies
-place : (g : Over) (c : goal.After-write_head g) (tracks : TracksBank g.W.Outside c.args.bank.now c.args.outside.now) → place_of c.args.which c.args.bank.now.bank_bytes ≡ bank_at tracks.header (other c.args.bank.now.which)
+place : (g : Over) (c : goal.After-write_head g) (tracks : TracksBank g.W.Outside c.args.bank.now c.args.outside.now) → bank_place c.args.which c.args.bank.now.bank_bytes ≡ bank_at tracks.header (other c.args.bank.now.which)
 place g c tracks = sym (place_is tracks.header c.args.which c.args.bank.now.bank_bytes tracks.bank_bytes) ∙ ap (bank_at tracks.header) c.requires.other
 
 -- and after the head
@@ -17,7 +17,7 @@ second g c tracks =
     let held = held_of G c.args.outside.now in
     let before = c.write_home.ensures.only in
     leaves_step G g.met.W.Outside.fewer_later c.args.outside.now c.write_home.new.outside c.write_head.new.outside before.calls.time c.write_head.ensures.only.calls.time
-    (λ (image seen : List ℕ). IsCovered tracks.header tracks.records held image) (λ (image seen : List ℕ). IsSame tracks.header bank tracks.records held image) (Torn (place_of c.args.which bank.bank_bytes) 9)
+    (λ (image seen : List ℕ). IsHomeCovered tracks.header tracks.records held image) (λ (image seen : List ℕ). IsSame tracks.header bank tracks.records held image) (Torn (bank_place c.args.which bank.bank_bytes) 9)
     (c.write_home.ensures.crash tracks)
     (c.write_head.ensures.crash (subst (λ (b : Bool). IsTrue b) (sym before.calls.honest) tracks.sure.honest) (before.told tracks.sure.told))
     (λ image seen covered. covered_same tracks.header bank tracks.records held tracks.store tracks.count image covered)
@@ -75,7 +75,7 @@ sure g c tracks asks before =
     let honest = subst (λ (b : Bool). IsTrue b) (sym before.calls.honest) tracks.sure.honest in
     synced_sure G c.write_head.new.outside c.sync.new.self asks honest (before.told tracks.sure.told) (c.in_ok-sync.ensures.durable honest)
 
-ready : (g : Over) (c : goal.After-write_selector g) (tracks : TracksBank g.W.Outside c.args.bank.now c.args.outside.now) → OnlyAsks g.W.Outside c.write_head.new.outside c.sync.new.self → place_of c.args.which c.args.bank.now.bank_bytes ≡ bank_at tracks.header (other c.args.bank.now.which)
+ready : (g : Over) (c : goal.After-write_selector g) (tracks : TracksBank g.W.Outside c.args.bank.now c.args.outside.now) → OnlyAsks g.W.Outside c.write_head.new.outside c.sync.new.self → bank_place c.args.which c.args.bank.now.bank_bytes ≡ bank_at tracks.header (other c.args.bank.now.which)
     → IsHeaded tracks.header c.args.bank.now tracks.records (held_of g.W.Outside c.args.outside.now) tracks.store tracks.count (held_of g.W.Outside c.sync.new.self)
 ready g c tracks asks at =
     let G = g.W.Outside in
@@ -83,10 +83,10 @@ ready g c tracks asks at =
     let held = held_of G c.args.outside.now in
     let home = held_of G c.write_home.new.outside in
     let homed : IsHomed tracks.header tracks.records held (line_count tracks.header.directory) home = subst (λ (n : ℕ). IsHomed tracks.header tracks.records held n home) (sym tracks.bound) (c.in_ok-write_home.ensures.done tracks) in
-    let is : held_of G c.sync.new.self ≡ written home (bank_at tracks.header (other bank.which)) (head_bytes (number_of bank)) =
+    let is : held_of G c.sync.new.self ≡ written home (bank_at tracks.header (other bank.which)) (head_bytes (bank_number bank)) =
     same_held G c.write_head.new.outside c.sync.new.self asks
-    ∙ written_held (G.held c.write_home.new.outside) (G.held c.write_head.new.outside) (place_of c.args.which bank.bank_bytes) (head_bytes (number_of bank)) _ (c.write_home.ensures.only.told tracks.sure.told) c.in_ok-write_head.ensures.written
-    ∙ ap (λ (n : ℕ). written home n (head_bytes (number_of bank))) at in
+    ∙ written_held (G.held c.write_home.new.outside) (G.held c.write_head.new.outside) (bank_place c.args.which bank.bank_bytes) (head_bytes (bank_number bank)) _ (c.write_home.ensures.only.told tracks.sure.told) c.in_ok-write_head.ensures.written
+    ∙ ap (λ (n : ℕ). written home n (head_bytes (bank_number bank))) at in
     subst (λ (those : List ℕ). IsHeaded tracks.header bank tracks.records held tracks.store tracks.count those) (sym is) (headed tracks.header bank tracks.records held tracks.store tracks.count home homed)
 
 pub returns : goal.returns

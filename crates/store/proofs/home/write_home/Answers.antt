@@ -1,4 +1,4 @@
-use Rattle.store.proofs.Lemmas.{common_steps, ◌≡◌, ℕ, ◌<◌, List, length, refl, sym, subst, ◌∙◌, arith, IsTrue, Bool, line_count, Leaves, held_of, leaves_held, TracksBank, writes_on, wrote_nothing, store_bytes, IsCovered, IsHomed, leaves_step, homed_start, step_covered, step_homed}
+use Rattle.store.proofs.Lemmas.{common_steps, ◌≡◌, ℕ, ◌<◌, List, length, refl, sym, subst, ◌∙◌, arith, IsTrue, Bool, line_count, Leaves, held_of, leaves_held, TracksBank, writes_on, wrote_nothing, store_bytes, IsHomeCovered, IsHomed, leaves_step, homed_start, step_covered, step_homed}
 use Rattle.store.proofs.home.write_home.Given.{Over}
 use Rattle.store.proofs.home.write_home.Goals as goal
 use Rattle.store.proofs.home.write_home.Goals.{After-copy_newest}
@@ -11,7 +11,7 @@ loop-line-init g c =
       only = wrote_nothing G start;
       no_fault = refl;
       crash = λ tracks image seen left.
-          subst (λ (those : List ℕ). IsCovered tracks.header tracks.records (held_of G start) those) (sym (leaves_held G start tracks.sure image seen left)) (homed_start tracks.header tracks.records (held_of G start)).covered;
+          subst (λ (those : List ℕ). IsHomeCovered tracks.header tracks.records (held_of G start) those) (sym (leaves_held G start tracks.sure image seen left)) (homed_start tracks.header tracks.records (held_of G start)).covered;
       homed = λ tracks. homed_start tracks.header tracks.records (held_of G start);
     }
 
@@ -19,14 +19,14 @@ pub copy_newest-requires-clause-room : goal.copy_newest-requires-clause-room
 copy_newest-requires-clause-room g c = c.loop-line.invariant.only.longer (store_bytes c.args.bank.now) c.requires.room
 
 -- the images after one line more
-covered : (g : Over) (c : goal.After-copy_newest g) (tracks : TracksBank g.W.Outside c.args.bank.now c.args.outside.now) → Leaves g.W.Outside (λ image seen. IsCovered tracks.header tracks.records (held_of g.W.Outside c.args.outside.now) image) c.args.outside.now c.copy_newest.new.outside
+covered : (g : Over) (c : goal.After-copy_newest g) (tracks : TracksBank g.W.Outside c.args.bank.now c.args.outside.now) → Leaves g.W.Outside (λ image seen. IsHomeCovered tracks.header tracks.records (held_of g.W.Outside c.args.outside.now) image) c.args.outside.now c.copy_newest.new.outside
 covered g c tracks =
     let G = g.W.Outside in
     let bank = c.args.bank.now in
     let start = c.args.outside.now in
     let before = c.loop-line.invariant.only in
     let below : c.loop-line.line < line_count tracks.header.directory = omega (arith, tracks.bound, c.loop-line-test.true, c.lines-line-end.ensures) in
-    let P = λ (image seen : List ℕ). IsCovered tracks.header tracks.records (held_of G start) image in
+    let P = λ (image seen : List ℕ). IsHomeCovered tracks.header tracks.records (held_of G start) image in
     leaves_step G g.met.W.Outside.fewer_later start c.loop-line.outside c.copy_newest.new.outside before.calls.time c.copy_newest.ensures.only.calls.time P P _
     (c.loop-line.invariant.crash tracks)
     (c.copy_newest.ensures.crash (subst (λ (b : Bool). IsTrue b) (sym before.calls.honest) tracks.sure.honest) (before.told tracks.sure.told))

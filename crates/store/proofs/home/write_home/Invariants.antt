@@ -1,10 +1,10 @@
-use Rattle.store.proofs.Common.{◌≡◌, Leaves, held_of, OnlyWrites, TracksBank, IsCovered, IsHomed}
+use Rattle.store.proofs.Common.{◌≡◌, Leaves, held_of, OnlyWrites, TracksBank, IsHomeCovered, IsHomed}
 use Rattle.store.proofs.home.write_home.Given as goal
 
 abbrev pub invariant-loop-line : goal.invariant-loop-line
 invariant-loop-line g l = record {
   only : OnlyWrites g.W.Outside l.fn.outside l.outside;
   no_fault : g.W.Outside.disk_faults l.outside ≡ g.W.Outside.disk_faults l.fn.outside;
-  crash : (tracks : TracksBank g.W.Outside l.bank l.fn.outside) → Leaves g.W.Outside (λ image seen. IsCovered tracks.header tracks.records (held_of g.W.Outside l.fn.outside) image) l.fn.outside l.outside;
+  crash : (tracks : TracksBank g.W.Outside l.bank l.fn.outside) → Leaves g.W.Outside (λ image seen. IsHomeCovered tracks.header tracks.records (held_of g.W.Outside l.fn.outside) image) l.fn.outside l.outside;
   homed : (tracks : TracksBank g.W.Outside l.bank l.fn.outside) → IsHomed tracks.header tracks.records (held_of g.W.Outside l.fn.outside) l.line (held_of g.W.Outside l.outside);
 }

@@ -1,18 +1,18 @@
-use Rattle.store.proofs.Lemmas.{◌≡◌, List, ℕ, ◌+◌, ◌≤◌, ◌∷◌, [], length, sym, subst, ap, ◌∙◌, Torn, written, held_of, Leaves, told_some, leaves_on, IsSafe, IsShut, is_open, common_steps, arith, writes_on, safe_behind, safe_at, opened, opened_torn, held_is, IsWritten}
+use Rattle.store.proofs.Lemmas.{◌≡◌, List, ℕ, ◌+◌, ◌≤◌, ◌∷◌, [], length, sym, subst, ap, ◌∙◌, Torn, written, held_of, Leaves, told_some, leaves_on, IsSafe, IsGateShut, is_open, common_steps, arith, writes_on, safe_behind, safe_at, opened, opened_torn, held_is, IsWritten}
 use Rattle.store.proofs.GateLemmas.{has_body}
 use Rattle.store.proofs.keep.keep_body.Given.{Over}
 use Rattle.store.proofs.keep.keep_body.Goals as goal
 use Rattle.store.proofs.keep.keep_body.Goals.{After-write_sure, After-write_sure-2}
 
 -- as many bytes are held as the gate and the body want
-room : (g : Over) (c : goal.After-write_sure g) → IsShut g.W.Outside c.args.gate c.args.outside.now → c.args.gate + 1 + length c.args.body.now ≤ length (held_of g.W.Outside c.args.outside.now)
+room : (g : Over) (c : goal.After-write_sure g) → IsGateShut g.W.Outside c.args.gate c.args.outside.now → c.args.gate + 1 + length c.args.body.now ≤ length (held_of g.W.Outside c.args.outside.now)
 room g c shut = c.requires.room (held_of g.W.Outside c.args.outside.now) (told_some (g.W.Outside.held c.args.outside.now) shut.sure.told)
 
 -- what a crash leaves from the start on, behind the first write and behind the second
-first : (g : Over) (c : goal.After-write_sure g) (shut : IsShut g.W.Outside c.args.gate c.args.outside.now) → Leaves g.W.Outside (λ image seen. IsSafe c.args.gate c.args.body.now (held_of g.W.Outside c.args.outside.now) image) c.args.outside.now c.write_sure.new.outside
+first : (g : Over) (c : goal.After-write_sure g) (shut : IsGateShut g.W.Outside c.args.gate c.args.outside.now) → Leaves g.W.Outside (λ image seen. IsSafe c.args.gate c.args.body.now (held_of g.W.Outside c.args.outside.now) image) c.args.outside.now c.write_sure.new.outside
 first g c shut image seen left = safe_behind c.args.gate c.args.body.now (held_of g.W.Outside c.args.outside.now) (room g c shut) shut.shut image (c.write_sure.ensures.crash shut.sure image seen left)
 
-second : (g : Over) (c : goal.After-write_sure-2 g) (shut : IsShut g.W.Outside c.args.gate c.args.outside.now) → IsWritten g.W.Outside (c.args.gate + 1) c.args.body.now c.args.outside.now c.write_sure.new.outside
+second : (g : Over) (c : goal.After-write_sure-2 g) (shut : IsGateShut g.W.Outside c.args.gate c.args.outside.now) → IsWritten g.W.Outside (c.args.gate + 1) c.args.body.now c.args.outside.now c.write_sure.new.outside
     → c.args.gate + 1 + length c.args.body.now ≤ length (held_of g.W.Outside c.args.outside.now)
     → Leaves g.W.Outside (λ image seen. IsSafe c.args.gate c.args.body.now (held_of g.W.Outside c.args.outside.now) image) c.args.outside.now c.write_sure.new.outside
     → Leaves g.W.Outside (λ image seen. IsSafe c.args.gate c.args.body.now (held_of g.W.Outside c.args.outside.now) image) c.args.outside.now c.write_sure-2.new.outside

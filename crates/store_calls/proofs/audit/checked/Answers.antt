@@ -1,11 +1,11 @@
-use Rattle.store_calls.proofs.Common.{◌≡◌, ◌⊎◌, ℕ, List, inl, inr, refl, sym, ap, subst, ◌∙◌, length, told_of, CommitLine, IsVerdict, report_told, Bundle, Status, IsUnchecked, AreBundleParts, part_of, IsFaultAt, length-map, KeptStore, Keeps}
+use Rattle.store_calls.proofs.Common.{◌≡◌, ◌⊎◌, ℕ, List, inl, inr, refl, sym, ap, subst, ◌∙◌, length, line_claim, CommitLine, IsVerdict, report_told, Bundle, Status, IsUnchecked, AreBundleParts, bundle_part, IsFaultAt, length-map, KeptStore, StandsForKept}
 use Rattle.job_text.specs.declared.job.Job.{Job}
 use Rattle.store_calls.proofs.PromiseLemmas.{handed_on}
 use Rattle.store_calls.proofs.audit.checked.Goals as goal
 
 -- a closing store that stands for nothing
 by_closing : (bytes : List ℕ) (bundle : Bundle) (job : Job) (report : List CommitLine) (opening : KeptStore) → AreBundleParts bytes bundle job report opening → (status : Status)
-    → ((offset : ℕ) × (status ≡ Status.Bundle 4 offset) × IsFaultAt (part_of bytes bundle.closing) offset) ⊎ (status ≡ Status.NoMemory) → IsUnchecked bytes status
+    → ((offset : ℕ) × (status ≡ Status.Bundle 4 offset) × IsFaultAt (bundle_part bytes bundle.closing) offset) ⊎ (status ≡ Status.NoMemory) → IsUnchecked bytes status
 by_closing bytes bundle job report opening opened status (inl (offset, is, fault)) =
     subst (IsUnchecked bytes) (sym is) (inr (refl, record { bundle = bundle; job = job; report = report; opening = opening; opened = opened; fault = fault }))
 by_closing bytes bundle job report opening opened status (inr is) = subst (IsUnchecked bytes) (sym is) tt
@@ -27,7 +27,7 @@ returns c =
       opening = parts.opening;
       closing = c.in_ok-closing.closing;
       opened = c.in_ok-opened.ensures.opened;
-      closing_is = subst (λ (text : List ℕ). Keeps text c.in_ok-closing.closing) c.part.ensures c.in_ok-closing.ensures;
-      counted = ap length c.as_slice.ensures.value ∙ sym (length-map parts.report.items told_of);
+      closing_is = subst (λ (text : List ℕ). StandsForKept text c.in_ok-closing.closing) c.part.ensures c.in_ok-closing.ensures;
+      counted = ap length c.as_slice.ensures.value ∙ sym (length-map parts.report.items line_claim);
       told = subst (λ (lines : List CommitLine). IsVerdict parts.job parts.opening c.in_ok-closing.closing (report_told lines) c.in_ok-verdict.verdict) c.deref.ensures.value c.in_ok-verdict.ensures;
     }

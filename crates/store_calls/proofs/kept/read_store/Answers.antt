@@ -1,18 +1,18 @@
-use Rattle.store_calls.proofs.Common.{◌≡◌, ℕ, List, [], length, sym, ◌∙◌, ap, subst, arith, IsSome, Option, unwrap_or, take_all, Layout, byte_count, held_of, Header, Standing, Stands, stands, number_of, Shows, KeptStore, bytes_in, Keeps}
+use Rattle.store_calls.proofs.Common.{◌≡◌, ℕ, List, [], length, sym, ◌∙◌, ap, subst, arith, IsSome, Option, unwrap_or, take_all, Layout, byte_count, held_of, Header, Standing, Stands, stands, store_number, Shows, KeptStore, bytes_standing, StandsForKept}
 use Rattle.store.proofs.StoodLemmas.{committed_in, committed-long, stood-store}
 use Rattle.store.specs.KeptStore as restart
 use Rattle.store_calls.proofs.kept.read_store.Goals as goal
 
 -- all bytes of what stands, read from the front on, are the store
-keeps_all : (held : List ℕ) (store : restart.KeptStore) (shows : Shows held store) (kept : KeptStore)
-    → kept.directory ≡ store.header.directory → kept.number ≡ number_of store → kept.store.items ≡ bytes_in (stands held) 0 (byte_count store.header.directory)
-    → Keeps held kept
+keeps_all : (held : List ℕ) (store : restart.StoreView) (shows : Shows held store) (kept : KeptStore)
+    → kept.directory ≡ store.header.directory → kept.number ≡ store_number store → kept.store.items ≡ bytes_standing (stands held) 0 (byte_count store.header.directory)
+    → StandsForKept held kept
 keeps_all held store shows kept directory number items =
     let committed : List ℕ = committed_in held store shows in
     let long : length committed ≡ byte_count store.header.directory = committed-long held store shows in
-    let stood : stands held ≡ Stands (number_of store) (record { directory = store.header.directory; bytes = committed }) = stood-store held store shows in
+    let stood : stands held ≡ Stands (store_number store) (record { directory = store.header.directory; bytes = committed }) = stood-store held store shows in
     let all : kept.store.items ≡ committed =
-    items ∙ ap (λ (standing : Standing). bytes_in standing 0 (byte_count store.header.directory)) stood
+    items ∙ ap (λ (standing : Standing). bytes_standing standing 0 (byte_count store.header.directory)) stood
     ∙ take_all (byte_count store.header.directory) committed (omega (arith, long)) in
     record {
       stood =
@@ -37,4 +37,4 @@ returns g c = λ told.
     directory c.number.ensures
     (c.in_ok-all_bytes.ensures.read
     (record { told = subst (λ (those : Option (List ℕ)). IsSome those) (sym held) told; shows = subst (λ (those : List ℕ). Shows those store) (sym same) shows })
-    ∙ ap (λ (held : List ℕ). bytes_in (stands held) 0 (byte_count store.header.directory)) same)
+    ∙ ap (λ (held : List ℕ). bytes_standing (stands held) 0 (byte_count store.header.directory)) same)

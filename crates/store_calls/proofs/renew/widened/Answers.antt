@@ -1,4 +1,4 @@
-use Rattle.store_calls.proofs.Lemmas.{◌≡◌, ◌+◌, ◌<◌, ◌/◌, ◌++◌, ℕ, List, [], ◌∷◌, length, take, slice_index_or, sym, ◌∙◌, ap, subst, arith, Result, Err, IsOk, OnOk, length-map, length-take, take_all, IsLegal, Four, widened_segments, widened_legal, widened_more, nat_tests}
+use Rattle.store_calls.proofs.Lemmas.{◌≡◌, ◌+◌, ◌<◌, ◌/◌, ◌++◌, ℕ, List, [], ◌∷◌, length, take, slice_index_or, sym, ◌∙◌, ap, subst, arith, Result, Err, IsOk, OnOk, length-map, length-take, take_all, AreSegmentsLegal, Four, widened_segments, widened_legal, widened_more, nat_tests}
 use Rattle.store_calls.proofs.renew.widened.Goals as goal
 
 pub loop-segment-init : goal.loop-segment-init
@@ -36,5 +36,5 @@ pub returns-in-Err : goal.returns-in-Err
 returns-in-Err c =
     let all : c.as_slice.result.now ≡ widened_segments c.args.old.now.segments =
     c.as_slice.ensures.value ∙ c.loop-segment.invariant ∙ ap widened_segments (take_all c.loop-segment.segment-index c.segments-segment-items.result.now c.loop-segment-test.false ∙ c.segments-segment-items.ensures.value) in
-    let legal = c.new.ensures.legal.1 (subst IsLegal (sym all) (widened_legal c.args.old.now.segments c.segments-segment-items.ensures.legal)) in
+    let legal = c.new.ensures.legal.1 (subst AreSegmentsLegal (sym all) (widened_legal c.args.old.now.segments c.segments-segment-items.ensures.legal)) in
     absurd (not_ok c.new.result c.in-Err.is legal)

@@ -1,5 +1,5 @@
 use Rattle.store_calls.proofs.Common.{rules}
-use Rattle.store_calls.proofs.Lemmas.{◌≡◌, ◌+◌, Bool, true, List, ℕ, length, ap, ◌∙◌, sym, arith, ◌==◌, nat_tests, asks_on, held_of, stands, bytes_in, held_same, shows_asks, in_two_pages, none_in, still_shown, on_ok_weaker, nil_from_length}
+use Rattle.store_calls.proofs.Lemmas.{◌≡◌, ◌+◌, Bool, true, List, ℕ, length, ap, ◌∙◌, sym, arith, ◌==◌, nat_tests, asks_on, held_of, stands, bytes_standing, held_same, shows_asks, in_two_pages, none_in, still_shown, on_ok_weaker, nil_from_length}
 use Rattle.store_calls.proofs.show.read_bytes.Goals as goal
 
 no_more : (bytes : List ℕ) (empty : Bool) → empty ≡ (length bytes == 0) → empty ≡ true → length bytes ≡ 0
@@ -30,7 +30,7 @@ returns g c = record {
       in_two_pages (stands (held_of g.W.Outside old)) c.args.at (length c.split_at_mut-front.result.0.now) (length c.split_at_mut-front.result.1.now) (length c.args.into.now) c.read_in_page.new.into c.read_in_page-2.new.into
       (omega (arith, split.front_len, split.back_len)) (c.in_ok-read_in_page.ensures.read shown)
       (reads (still_shown g.W.Outside g.met.W.Outside.fewer_later c.args.store.now old mid shown asks)
-      ∙ ap (λ (held : List ℕ). bytes_in (stands held) (c.args.at + c.min-here.result) (length c.split_at_mut-front.result.1.now)) (held_same g.W.Outside old mid asks)
-      ∙ ap (λ (n : ℕ). bytes_in (stands (held_of g.W.Outside old)) (c.args.at + n) (length c.split_at_mut-front.result.1.now)) (sym split.front_len)))
+      ∙ ap (λ (held : List ℕ). bytes_standing (stands held) (c.args.at + c.min-here.result) (length c.split_at_mut-front.result.1.now)) (held_same g.W.Outside old mid asks)
+      ∙ ap (λ (n : ℕ). bytes_standing (stands (held_of g.W.Outside old)) (c.args.at + n) (length c.split_at_mut-front.result.1.now)) (sym split.front_len)))
       c.read_in_page-2.ensures.read;
 }

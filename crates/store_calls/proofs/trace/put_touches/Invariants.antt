@@ -1,9 +1,9 @@
-use Rattle.store_calls.proofs.Common.{take, flat_map, Puts, PutsTimes, done, touch_line}
+use Rattle.store_calls.proofs.Common.{take, flat_map, PrintsBytes, PutsTimes, done, touch_line}
 use Rattle.store_calls.proofs.trace.put_touches.Given as goal
 
 -- the lines so far are put
 abbrev pub invariant-loop-touch : goal.invariant-loop-touch
 invariant-loop-touch g l = record {
-  puts : Puts g.W.Outside (flat_map touch_line (take l.touch-index l.touches)) l.initial.outside l.outside done;
+  puts : PrintsBytes g.W.Outside (flat_map touch_line (take l.touch-index l.touches)) l.initial.outside l.outside done;
   times : PutsTimes g.W.Outside l.touch-index l.initial.outside l.outside done;
 }

@@ -1,7 +1,7 @@
 use Rattle.std.proofs.Common.{◌≡◌, ◌∙◌, ap, subst, sym}
 use Rattle.store_format.specs.declared.header.Header.{Header}
 use Rattle.romp_cpu.specs.Segments.{registers_of_program}
-use Rattle.storage_unit.specs.declared.model.Reach.{Reach}
+use Rattle.storage_unit.specs.declared.unit_model.Reach.{Reach}
 use Rattle.storage_unit.specs.Held.{AreReached}
 use Rattle.storage_unit.proofs.UnitLemmas.{program-reached}
 use Rattle.worked.proofs.unit_tests.ready.Goals as goal

@@ -1,11 +1,11 @@
-use Rattle.activations.proofs.Lemmas.{AreWanted, Want, asking, activity_of, Inside, ◌≡◌, List, map, Activity, Touch, AreWithin, with_whole_page, taken-of, Seating, sitter, holders, desk_over, IsSound, KeepsParts, StandsStill, IsContested, tally_counts, wants_of, taken-below, ℕ, IsSome, ap, sym, ◌∙◌, subst, EndsContest, keeps-two, still-on, ok-then, some-holders, asked-within, sound-asking, asks-now, keeps-asking, still-asking, asked-whole, IfErr}
+use Rattle.activations.proofs.Lemmas.{AreWanted, Want, asking, activity_of, Inside, ◌≡◌, List, map, Activity, TouchedLines, AreWithin, with_whole_page, taken-of, Seating, sitter, holders, desk_over, IsActivitySound, KeepsParts, StandsStill, IsContested, tally_counts, wants_of, taken-below, ℕ, IsSome, ap, sym, ◌∙◌, subst, EndsContest, keeps-two, still-on, ok-then, some-holders, asked-within, sound-asking, asks-now, keeps-asking, still-asking, asked-whole, IfErr}
 use Rattle.activations.proofs.activations.Activations.ask.Goals as goal
 
 -- what is asked for is of pages that are there
-within : (fields : Inside) {now : Activity} (is : activity_of fields ≡ now) (touch : Touch) (items : List Want) → IsSound (activity_of fields) → AreWanted now.reach.directory (wants_of touch)
+within : (fields : Inside) {now : Activity} (is : activity_of fields ≡ now) (touch : TouchedLines) (items : List Want) → IsActivitySound (activity_of fields) → AreWanted now.reach.directory (wants_of touch)
     → items ≡ map (with_whole_page now.reach.directory) (wants_of touch) → AreWithin fields.seats.holding.pages items
 within fields {now} is touch items whole wanted asked =
-    subst (λ (a : Activity). AreWithin a.seating.holding.pages items) (sym is) (asked-within now (wants_of touch) items (subst IsSound is whole) wanted asked)
+    subst (λ (a : Activity). AreWithin a.seating.holding.pages items) (sym is) (asked-within now (wants_of touch) items (subst IsActivitySound is whole) wanted asked)
 
 pub holders-requires : goal.holders-requires
 holders-requires c = within c.self.inside c.self.view_is c.args.touch.now _ c.self.invariant c.requires.wanted c.request-request.ensures
@@ -19,7 +19,7 @@ wait-requires-clause-pages c = within c.self.inside c.self.view_is c.args.touch.
 pub invariant_of-self : goal.invariant_of-self
 invariant_of-self c =
     let a = activity_of c.self.inside in
-    subst (λ (s : Seating). IsSound (record a { seating = s })) (sym c.wait.ensures)
+    subst (λ (s : Seating). IsActivitySound (record a { seating = s })) (sym c.wait.ensures)
     (sound-asking a c.args.seat c.request-request.result c.self.invariant (taken-of c.self.inside c.self.view_is c.args.seat c.requires.taken)
     (within c.self.inside c.self.view_is c.args.touch.now _ c.self.invariant c.requires.wanted c.request-request.ensures)
     (asked-whole c.args.self.now.reach.directory (wants_of c.args.touch.now) c.request-request.result.wants.items c.requires.wanted.sets c.request-request.ensures))
@@ -31,7 +31,7 @@ contend-requires-clause-waits c = subst (λ (s : Seating). IsSome (sitter s c.ar
 pub returns : goal.returns
 returns c =
     let a = c.args.self.now in let seat = c.args.seat in
-    let request = c.request-request.result in let sound = subst IsSound c.self.view_is c.self.invariant in
+    let request = c.request-request.result in let sound = subst IsActivitySound c.self.view_is c.self.invariant in
     let mid = record (activity_of c.self.inside) { seating = c.wait.new.self } in
     let is : mid ≡ asking a seat request = (λ i. record (activity_of c.self.inside) { seating = c.wait.ensures i }) ∙ ap (λ (x : Activity). asking x seat request) c.self.view_is in
     let still = subst (λ (x : Activity). StandsStill a x seat) (sym is) (still-asking a seat request sound c.requires.taken) in

@@ -1,12 +1,12 @@
-use Rattle.activations.proofs.Common.{activity_of, Inside, Begun, reach_of, absent_segment, Activity, program_at, Program, first_live, registers_of_program, IsSound, ◌≡◌, ◌<◌, ℕ, List, ◌+◌, length, refl, sym, ap, ◌∙◌, arith, subst, slice_set, BeginsSo, begins, begun_in, started, begun}
+use Rattle.activations.proofs.Common.{activity_of, Inside, Begun, reach_of, absent_segment, Activity, program_at, Program, first_live, registers_of_program, IsActivitySound, ◌≡◌, ◌<◌, ℕ, List, ◌+◌, length, refl, sym, ap, ◌∙◌, arith, subst, slice_set, BeginsSo, begin_answer, begun_in, started, seat_begun}
 use Rattle.desk.specs.declared.answers.Begun.TheVariants
 use Rattle.activations.proofs.BeginLemmas.{begun-so, begins-full, begins-refused, begins-started, sound-begins, sound-given, is-code, is-fresh, has-room, some-next}
 use Rattle.activations.proofs.activations.Activations.begin.Goals.{In-Some-sit, After-start}
 use Rattle.activations.proofs.activations.Activations.begin.Goals as goal
 
 -- what it says, where it comes to this over the fields
-said : (fields : Inside) {now : Activity} (is : activity_of fields ≡ now) → IsSound (activity_of fields) → (program : ℕ) (args : List ℕ) (told : Begun) (new : Activity) → program < length now.programs
-    → begins (activity_of fields) program args ≡ (told, new) → BeginsSo now program args told new
+said : (fields : Inside) {now : Activity} (is : activity_of fields ≡ now) → IsActivitySound (activity_of fields) → (program : ℕ) (args : List ℕ) (told : Begun) (new : Activity) → program < length now.programs
+    → begin_answer (activity_of fields) program args ≡ (told, new) → BeginsSo now program args told new
 said fields is whole program args told new known comes =
     subst (λ (a : Activity). BeginsSo a program args told new) is
     (begun-so (activity_of fields) program args told new whole (subst (λ (a : Activity). program < length a.programs) (sym is) known) fields.unit.fits comes)
@@ -44,7 +44,7 @@ index_mut-requires c =
     omega (arith, below, c.from-3.ensures, c.self.invariant.live, c.self.inside.live.ok.0)
 
 -- it begins
-goes : (c : In-Some-sit) → begins (activity_of c.self.inside) c.args.program c.args.args ≡ (TheVariants.Started c.self.inside.next, begun_in (activity_of c.self.inside) c.args.program c.args.args c.in-Some-sit.seat)
+goes : (c : In-Some-sit) → begin_answer (activity_of c.self.inside) c.args.program c.args.args ≡ (TheVariants.Started c.self.inside.next, begun_in (activity_of c.self.inside) c.args.program c.args.args c.in-Some-sit.seat)
 goes c =
     begins-started (activity_of c.self.inside) c.args.program c.args.args c.self.invariant c.in-Some-sit.seat (sym c.in-Some-sit.ensures.seat)
     ((λ i. absent_segment (sym c.directory-directory.ensures i) (sym (is-code c.self.inside.programs.items c.args.program c.from.result c.index-code.result.now (subst (λ (x : Activity). c.args.program < length x.programs) (sym c.self.view_is) c.requires.known) c.from.ensures c.index-code.ensures) i).windows)
@@ -72,14 +72,14 @@ left c =
     c.registers_of-registers.ensures ∙ (λ i. registers_of_program (code_is i) (c.directory-directory.ensures i) (3840 + c.from-2.ensures i)) in
     let start_is : c.start.new.self ≡ started a c.args.program c.args.args c.in-Some-sit.seat = c.start.ensures
     ∙ (λ i. first_live (code_is i).entry c.args.args (registers_are i)) in
-    let reach_is : reach_of c.begin.new.self ≡ begun a.reach c.in-Some-sit.seat (program_at a.programs c.args.program).image =
-    c.begin.ensures ∙ ap (begun a.reach c.in-Some-sit.seat) (c.as_slice.ensures ∙ ap (λ (p : Program). p.image) code_is) in
+    let reach_is : reach_of c.begin.new.self ≡ seat_begun a.reach c.in-Some-sit.seat (program_at a.programs c.args.program).image =
+    c.begin.ensures ∙ ap (seat_begun a.reach c.in-Some-sit.seat) (c.as_slice.ensures ∙ ap (λ (p : Program). p.image) code_is) in
     λ i. record a { next = a.next + 1; seating = c.in-Some-sit.ensures.seated i; live = slice_set a.live (c.from-3.ensures i) (start_is i); reach = reach_is i }
 
 pub invariant_of-self-2 : goal.invariant_of-self-2
 invariant_of-self-2 c =
     let is = left (goal.at.invariant_of-self-2 c).After-start ∙ sym (ap (λ (b : Begun × Activity). b.1) (goes (goal.at.invariant_of-self-2 c).In-Some-sit)) in
-    subst IsSound (sym is) (sound-begins (activity_of c.self.inside) c.args.program c.args.args c.self.invariant (subst (λ (x : Activity). c.args.program < length x.programs) (sym c.self.view_is) c.requires.known))
+    subst IsActivitySound (sym is) (sound-begins (activity_of c.self.inside) c.args.program c.args.args c.self.invariant (subst (λ (x : Activity). c.args.program < length x.programs) (sym c.self.view_is) c.requires.known))
 
 pub returns : goal.returns
 returns c =

@@ -1,4 +1,4 @@
-use Rattle.activations.proofs.Lemmas.{KeepsParts, keeps-pool, refl, Result, sym, ◌∙◌, subst, TurnEnd, Activity, Tally, IsTurning, ComesBack, HasEnded, HasBroken, wants_of, instruction_in, with_pool, tally_counts, keeps-broke, is-to-serve, prepare-broke, handed, turn-ends, under, turn-back}
+use Rattle.activations.proofs.Lemmas.{KeepsParts, keeps-pool, refl, Result, sym, ◌∙◌, subst, TurnEnd, Activity, Tally, IsTurning, ComesBack, HasEnded, HasBroken, wants_of, instruction_in, with_other_pool, tally_counts, keeps-broke, is-to-serve, prepare-broke, handed, turn-ends, under, turn-back}
 use Rattle.desk.specs.declared.answers.TurnEnd.TheVariants as end
 use Rattle.activations.proofs.activations.Activations.come_back.Goals as goal
 
@@ -25,7 +25,7 @@ returns-clause-turns g c begins left committed order some store turning =
     let a = c.args.self.now in let touch = c.touch_of-touch.result in
     let to = is-to-serve a c.args.seat c.in-Some.access (wants_of touch) c.touch_of-touch.ensures.sound c.requires.can.taken c.requires.can.selected (c.requires.shut c.in-Some.access c.in-Some.is) c.touch_of-touch.ensures.lines committed turning.follows in
     subst (λ (x : Activity). IsTurning begins x c.args.seat left committed order (tally_counts c.bring.new.tally)) (sym (c.look_up.ensures ∙ c.in_ok-bring.ensures.shape))
-    (subst (λ (t : Tally). IsTurning begins (with_pool a c.bring.new.self.reach.pool) c.args.seat left committed order (tally_counts t)) (sym c.bring.ensures.counts.rest)
+    (subst (λ (t : Tally). IsTurning begins (with_other_pool a c.bring.new.self.reach.pool) c.args.seat left committed order (tally_counts t)) (sym c.bring.ensures.counts.rest)
     (turn-back a c.args.seat committed order touch to.0 to.1 c.touch_of-touch.ensures.wanted (sym c.is_granted.ensures ∙ c.if-not-is_granted.false) begins left (tally_counts c.args.tally.now) c.bring.new.self.reach.pool c.bring.new.tally.pages some c.bring.ensures.counts.more
     (c.in_ok-bring.ensures.brings.fetched.fetched committed order store turning.follows.kept.clean) c.in_ok-bring.ensures.brings.fetched.resident turning))
 

@@ -1,8 +1,8 @@
-use Rattle.activations.proofs.Lemmas.{rules, activity_of, refl, has, Activity, IsSound, Pool, Reach, ◌≡◌, ◌∙◌, ◌+◌, false, sym, subst, ap, came-in, on-ok, sound-pool, reach_of, OnOk, IsIn, KeepsPool}
+use Rattle.activations.proofs.Lemmas.{rules, activity_of, refl, has, Activity, IsActivitySound, Pool, Reach, ◌≡◌, ◌∙◌, ◌+◌, false, sym, subst, ap, came-in, on-ok, sound-pool, reach_of, OnOk, IsIn, KeepsPool}
 use Rattle.activations.proofs.activations.Activations.fetch_page.Goals as goal
 
 pub invariant_of-self : goal.invariant_of-self
-invariant_of-self g c = subst (λ (r : Reach). IsSound (record (activity_of c.self.inside) { reach = r })) (sym c.bring_page.ensures.rest) (sound-pool (activity_of c.self.inside) (reach_of c.bring_page.new.unit).pool c.self.invariant)
+invariant_of-self g c = subst (λ (r : Reach). IsActivitySound (record (activity_of c.self.inside) { reach = r })) (sym c.bring_page.ensures.rest) (sound-pool (activity_of c.self.inside) (reach_of c.bring_page.new.unit).pool c.self.invariant)
 
 pub returns-clause-came : goal.returns-clause-came
 returns-clause-came g c =

@@ -1,4 +1,4 @@
-use Rattle.activations.proofs.Lemmas.{activity_of, IsSound, sound-pool, has, Activity, rolled, RollsBack, ◌≡◌, ◌+◌, ℕ, List, sym, ap, ◌∙◌, arith, subst, RolledSo, rolled-none, rolled-past, rolled-step, deserted, restarted-left}
+use Rattle.activations.proofs.Lemmas.{activity_of, IsActivitySound, sound-pool, has, Activity, rolled, RollsBack, ◌≡◌, ◌+◌, ℕ, List, sym, ap, ◌∙◌, arith, subst, RolledSo, rolled-none, rolled-past, rolled-step, deserted, restarted-left}
 use Rattle.activations.proofs.activations.Activations.forget.Goals as goal
 use Rattle.activations.proofs.activations.Activations.forget.Goals.{then-contains, else-contains}
 
@@ -25,7 +25,7 @@ loop-seat-preserved c =
     ]
 
 pub invariant_of-self : goal.invariant_of-self
-invariant_of-self c = subst (λ (r : _). IsSound (record (activity_of c.self-2.inside) { reach = r })) (sym c.empty.ensures) (sound-pool (activity_of c.self-2.inside) _ c.self-2.invariant)
+invariant_of-self c = subst (λ (r : _). IsActivitySound (record (activity_of c.self-2.inside) { reach = r })) (sym c.empty.ensures) (sound-pool (activity_of c.self-2.inside) _ c.self-2.invariant)
 
 pub returns : goal.returns
 returns c =

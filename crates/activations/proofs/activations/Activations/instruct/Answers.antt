@@ -1,10 +1,10 @@
-use Rattle.activations.proofs.Lemmas.{EndsRows, check-named, number_in, Check, row, Activity, program_in, IsSelected, WasAttempted, plain_in, KeepsDesk, ComesOut, KeepsParts, StaysSeated, Ok, instruction_in, HasEnded, tally_counts, IsStep, asks_none, refl, ◌≡◌, arith, sym, subst, keeps-itself, stays-itself, ended-so, took-either, took-stays, keeps-took, keeps-checked, IsNoLimit, row-goes, at-commit}
+use Rattle.activations.proofs.Lemmas.{EndsRows, check-named, number_in, Check, row, Activity, program_in, IsSeatSelected, WasAttempted, plain_in, KeepsDesk, ComesOut, KeepsParts, StaysSeated, Ok, instruction_in, HasEnded, tally_counts, IsStepTaken, asks_none, refl, ◌≡◌, arith, sym, subst, keeps-itself, stays-itself, ended-so, took-either, took-stays, keeps-took, keeps-checked, IsNoLimit, row-goes, at-commit}
 use Rattle.romp_cpu.specs.declared.cpu.Attempt.{Attempt}
-use Rattle.activations.specs.declared.instructions.Went.{Went}
+use Rattle.activations.specs.declared.instructions.StepWent.{StepWent}
 use Rattle.activations.proofs.activations.Activations.instruct.Goals as goal
 
 pub returns-in_err-serve-clause-came : goal.returns-in_err-serve-clause-came
-returns-in_err-serve-clause-came g c = ended-so IsStep c.from_residual.result c.from_residual.ensures.1 c.in_err-serve.ensures.came (λ so. so)
+returns-in_err-serve-clause-came g c = ended-so IsStepTaken c.from_residual.result c.from_residual.ensures.1 c.in_err-serve.ensures.came (λ so. so)
 
 pub returns-in-Went-clause-came : goal.returns-in-Went-clause-came
 returns-in-Went-clause-came g c =
@@ -21,14 +21,14 @@ pub returns-in_ok-serve-in-Fault-clause-came : goal.returns-in_ok-serve-in-Fault
 returns-in_ok-serve-in-Fault-clause-came g c =
     let same = (subst (λ (attempt : Attempt). WasAttempted attempt c.args.self.now c.args.seat c.execute.new.self) c.in-Fault.is c.execute.ensures.went).0 in
     let came = c.in_ok-serve-in-Fault.ensures.came in
-    subst (λ (a : Activity). ComesOut g.W.Outside c.args.store.now c.args.seat a c.serve-in-Fault.new.self c.args.outside.now c.serve-in-Fault.new.outside c.args.tally.now c.serve-in-Fault.new.tally (Ok Went.On) IsStep) same
+    subst (λ (a : Activity). ComesOut g.W.Outside c.args.store.now c.args.seat a c.serve-in-Fault.new.self c.args.outside.now c.serve-in-Fault.new.outside c.args.tally.now c.serve-in-Fault.new.tally (Ok StepWent.On) IsStepTaken) same
     (record { keeps = came.keeps; on = came.on; over = tt; no_limit = tt; step = came.step })
 
 pub returns-in_err-serve-in-Fault-clause-came : goal.returns-in_err-serve-in-Fault-clause-came
 returns-in_err-serve-in-Fault-clause-came g c =
     let same = (subst (λ (attempt : Attempt). WasAttempted attempt c.args.self.now c.args.seat c.execute.new.self) c.in-Fault.is c.execute.ensures.went).0 in
-    subst (λ (a : Activity). ComesOut g.W.Outside c.args.store.now c.args.seat a c.serve-in-Fault.new.self c.args.outside.now c.serve-in-Fault.new.outside c.args.tally.now c.serve-in-Fault.new.tally c.from_residual-in_err-serve-in-Fault.result IsStep) same
-    (ended-so IsStep c.from_residual-in_err-serve-in-Fault.result c.from_residual-in_err-serve-in-Fault.ensures.1 c.in_err-serve-in-Fault.ensures.came (λ so. so))
+    subst (λ (a : Activity). ComesOut g.W.Outside c.args.store.now c.args.seat a c.serve-in-Fault.new.self c.args.outside.now c.serve-in-Fault.new.outside c.args.tally.now c.serve-in-Fault.new.tally c.from_residual-in_err-serve-in-Fault.result IsStepTaken) same
+    (ended-so IsStepTaken c.from_residual-in_err-serve-in-Fault.result c.from_residual-in_err-serve-in-Fault.ensures.1 c.in_err-serve-in-Fault.ensures.came (λ so. so))
 
 pub returns-in-Commit-clause-came : goal.returns-in-Commit-clause-came
 returns-in-Commit-clause-came g c =
@@ -55,7 +55,7 @@ returns-in-Check g c =
         no_limit = subst IsNoLimit (sym c.check.ensures.end) tt;
         step = λ committed order store follows.
             subst (λ (x : Activity). HasEnded c.check.result (instruction_in x c.args.seat committed order counts) c.check.new.self committed order counts) came.0
-            (c.check.ensures.checked committed order counts (subst (λ (x : Activity). IsSelected x c.args.seat) (sym came.0) c.requires.can.selected) (subst (λ (x : Activity). KeepsDesk x committed) (sym came.0) follows)
+            (c.check.ensures.checked committed order counts (subst (λ (x : Activity). IsSeatSelected x c.args.seat) (sym came.0) c.requires.can.selected) (subst (λ (x : Activity). KeepsDesk x committed) (sym came.0) follows)
             (subst (λ (x : Activity). row (program_in x c.args.seat) x.reach.directory (plain_in x c.args.seat committed) ≡ Check c.in-Check.code) (sym came.0) (came.1 committed follows.kept.long)));
       };
     }

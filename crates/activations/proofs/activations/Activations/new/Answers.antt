@@ -1,4 +1,4 @@
-use Rattle.activations.proofs.Lemmas.{page_count, nobody_sits, most_lines, Activity, HasNobody, IsSound, sym, ap, ◌∙◌, arith, subst, ◌≡◌, idle, reach_of, sound-idle, desk-idle, follows-idle, refl}
+use Rattle.activations.proofs.Lemmas.{page_count, nobody_sits, most_lines, Activity, HasNobody, IsActivitySound, sym, ap, ◌∙◌, arith, subst, ◌≡◌, idle, reach_of, sound-idle, desk-idle, follows-idle, refl}
 use Rattle.activations.proofs.activations.Activations.new.Goals as goal
 
 -- nobody runs in what is made
@@ -14,7 +14,7 @@ is-idle c = λ i. record {
 }
 
 pub invariant_of-result : goal.invariant_of-result
-invariant_of-result c = subst IsSound (sym (is-idle c)) (sound-idle c.args.programs.items _ c.args.frames c.args.header.now.directory c.loop.live.items (omega (arith, c.loop.invariant, c.loop-test.false, c.loop.auto.counter-end)))
+invariant_of-result c = subst IsActivitySound (sym (is-idle c)) (sound-idle c.args.programs.items _ c.args.frames c.args.header.now.directory c.loop.live.items (omega (arith, c.loop.invariant, c.loop-test.false, c.loop.auto.counter-end)))
 
 pub returns : goal.returns
 returns c = subst (λ (a : Activity). HasNobody a c.args.programs.items c.args.header.now c.args.frames) (sym (is-idle c)) (record {

@@ -1,4 +1,4 @@
-use Rattle.activations.proofs.Lemmas.{AreWanted, KeepsParts, keeps-pool, AreWithin, page_count, refl, Bool, List, ℕ, AreLetBut, WillTouch, IsMoved, pages_picked, picked-refused, taken-below, let-but, pages_refused, shut-touches, touch-on, TurnEnd, IsClean, Tally, Activity, HasBrokenOff, IsPrepared, Prepares, IsFetched, instruction_in, with_pool, wants_of, pages_wanted, HasEnded, HasBroken, tally_counts, asks_none, ◌+◌, Result, sym, ◌∙◌, ap, subst, keeps-left, keeps-broke, is-to-serve, prepare-broke, prepared-so, handed, rules}
+use Rattle.activations.proofs.Lemmas.{AreWanted, KeepsParts, keeps-pool, AreWithin, page_count, refl, Bool, List, ℕ, AreLetBut, WillTouch, IsPoolMoved, pages_picked, picked-refused, taken-below, let-but, pages_refused, shut-touches, touch-on, TurnEnd, IsClean, Tally, Activity, HasBrokenOff, IsPrepared, Prepares, IsFetched, instruction_in, with_other_pool, wants_of, pages_wanted, HasEnded, HasBroken, tally_counts, asks_none, ◌+◌, Result, sym, ◌∙◌, ap, subst, keeps-left, keeps-broke, is-to-serve, prepare-broke, prepared-so, handed, rules}
 use Rattle.activations.proofs.activations.Activations.prepare.Goals as goal
 
 pub returns-in_err-keep_limit-clause-came : goal.returns-in_err-keep_limit-clause-came
@@ -43,12 +43,12 @@ pub returns-clause-may : goal.returns-clause-may
 returns-clause-may g c =
     let a = c.args.self.now in let new = c.bring.new.self in let touch = c.touch_of-touch.result in
     let wants = wants_of touch in let same = c.in_ok-keep_limit.ensures.kept.0 in
-    let runner = c.requires.can.selected.runner in let came = c.in_ok-bring.ensures.shape ∙ ap (λ (x : Activity). with_pool x new.reach.pool) same in
-    let moved : IsMoved a.reach.pool new.reach.pool = subst (λ (x : Activity). IsMoved x.reach.pool new.reach.pool) same c.in_ok-bring.ensures.brings.fetched.moved in
+    let runner = c.requires.can.selected.runner in let came = c.in_ok-bring.ensures.shape ∙ ap (λ (x : Activity). with_other_pool x new.reach.pool) same in
+    let moved : IsPoolMoved a.reach.pool new.reach.pool = subst (λ (x : Activity). IsPoolMoved x.reach.pool new.reach.pool) same c.in_ok-bring.ensures.brings.fetched.moved in
     record {
       wanted = subst (λ (x : Activity). AreWanted x.reach.directory wants) (sym came) c.touch_of-touch.ensures.wanted;
       touches = subst (λ (x : Activity). WillTouch x c.args.seat wants) (sym came)
-          (touch-on a (with_pool a new.reach.pool) c.args.seat wants refl runner runner refl refl (moved.private c.args.seat (taken-below a.seating c.touch_of-touch.ensures.sound.seating c.args.seat c.requires.can.taken))
+          (touch-on a (with_other_pool a new.reach.pool) c.args.seat wants refl runner runner refl refl (moved.private c.args.seat (taken-below a.seating c.touch_of-touch.ensures.sound.seating c.args.seat c.requires.can.taken))
           (shut-touches a c.args.seat c.args.access wants c.requires.shut c.touch_of-touch.ensures.lines));
       refused = subst (λ (picked : Bool × Bool). AreLetBut new.reach.entries (c.args.seat + 1) (pages_picked touch picked) wants) (sym c.refused-refused.ensures)
           (subst (λ (pages : List ℕ). AreLetBut new.reach.entries (c.args.seat + 1) pages wants) (sym (picked-refused new.reach.entries (c.args.seat + 1) touch))
@@ -58,7 +58,7 @@ returns-clause-may g c =
 pub returns-clause-came : goal.returns-clause-came
 returns-clause-came g c = record {
   keeps =
-      let came = c.in_ok-bring.ensures.shape ∙ ap (λ (x : Activity). with_pool x c.bring.new.self.reach.pool) c.in_ok-keep_limit.ensures.kept.0 in
+      let came = c.in_ok-bring.ensures.shape ∙ ap (λ (x : Activity). with_other_pool x c.bring.new.self.reach.pool) c.in_ok-keep_limit.ensures.kept.0 in
       record { asks = c.bring.ensures.asks; parts = subst (λ (x : Activity). KeepsParts c.args.self.now x 0) (sym came) (keeps-pool c.args.self.now c.bring.new.self.reach.pool) };
   on = search rules;
   over = tt;
@@ -75,13 +75,13 @@ returns-clause-came g c = record {
       (λ (t : Tally). IsPrepared begins new c.args.seat c.touch_of-touch.result c.refused-refused.result committed order (record (tally_counts t) { locks = t.locks + (c.from.result + c.from-2.result) }))
       (sym c.bring.ensures.counts.rest)
       (prepared-so a c.args.seat committed order counts c.touch_of-touch.result to.0 to.1 c.touch_of-touch.ensures.wanted c.in_ok-keep_limit.ensures.kept.1 new.reach.pool c.bring.new.tally.pages
-      fetched new c.refused-refused.result c.from.result c.from-2.result (c.in_ok-bring.ensures.shape ∙ ap (λ (x : Activity). with_pool x new.reach.pool) same) c.refused-refused.ensures
+      fetched new c.refused-refused.result c.from.result c.from-2.result (c.in_ok-bring.ensures.shape ∙ ap (λ (x : Activity). with_other_pool x new.reach.pool) same) c.refused-refused.ensures
       c.from.ensures c.from-2.ensures);
 }
 
 pub refused-refused-requires-clause-pages : goal.refused-refused-requires-clause-pages
 refused-refused-requires-clause-pages g c =
-    let came = c.in_ok-bring.ensures.shape ∙ ap (λ (x : Activity). with_pool x c.bring.new.self.reach.pool) c.in_ok-keep_limit.ensures.kept.0 in
+    let came = c.in_ok-bring.ensures.shape ∙ ap (λ (x : Activity). with_other_pool x c.bring.new.self.reach.pool) c.in_ok-keep_limit.ensures.kept.0 in
     subst (λ (x : Activity). AreWithin (page_count x.reach.directory) (wants_of c.touch_of-touch.result)) (sym came) c.touch_of-touch.ensures.wanted.within
 
 pub refused-refused-requires-clause-seat : goal.refused-refused-requires-clause-seat

@@ -1,4 +1,4 @@
-use Rattle.activations.proofs.Lemmas.{activity_of, size, locks_in, Activity, HasWritten, unwrap_or, Option, Some, ◌++◌, take_all, Layout, page_count, holds_some, Holding, held_at, flat_lines, Pool, begun_of, KeptStore, RecordLine, most_lines, with_lines, written_of, wrote, ◌≡◌, ◌<◌, ◌≤◌, ◌+◌, [], ℕ, List, length, sym, ◌∙◌, ap, subst, arith, slice_index_or, page-held, pages-below, before-page, room-left, written-more}
+use Rattle.activations.proofs.Lemmas.{activity_of, size, locks_in, Activity, HasWritten, unwrap_or, Option, Some, ◌++◌, take_all, Layout, page_count, holds_some, Holding, held_at, flat_lines, Pool, begun_of, StoreView, RecordLine, most_lines, with_lines, written_of, wrote, ◌≡◌, ◌<◌, ◌≤◌, ◌+◌, [], ℕ, List, length, sym, ◌∙◌, ap, subst, arith, slice_index_or, page-held, pages-below, before-page, room-left, written-more}
 use Rattle.activations.proofs.activations.Activations.record_written.Goals as goal
 
 room_with : (begun writes these most all : ℕ) → these ≡ writes → all ≡ most → begun + writes ≤ most → begun + these ≤ all
@@ -21,13 +21,13 @@ record_lines-requires-clause-page c =
 pub record_lines-requires-clause-size : goal.record_lines-requires-clause-size
 record_lines-requires-clause-size c = ap (λ (pool : Pool). pool.page) c.pool.ensures
     ∙ c.self.inside.unit.fits.size
-    ∙ ap (λ (d : Layout). d.page) (sym (ap (λ (store : KeptStore). store.header.directory) c.loop-page.invariant ∙ (c.requires.directory ∙ ap (λ (x : Activity). x.reach.directory) (sym c.self.view_is))))
+    ∙ ap (λ (d : Layout). d.page) (sym (ap (λ (store : StoreView). store.header.directory) c.loop-page.invariant ∙ (c.requires.directory ∙ ap (λ (x : Activity). x.reach.directory) (sym c.self.view_is))))
 
 pub record_lines-requires-clause-below : goal.record_lines-requires-clause-below
 record_lines-requires-clause-below c =
     let below = page-held c.self.inside.seats.holding c.locks-locks.result.now c.args.seat c.held_pages-page-items.result.now c.loop-page.page-index c.locks-locks.ensures c.self.invariant.seating.whole c.requires.seat c.loop-page-test.true c.held_pages-page-items.ensures.each in
     subst (λ (d : Layout). slice_index_or c.held_pages-page-items.result.now c.loop-page.page-index 0 < page_count d)
-    (sym (ap (λ (store : KeptStore). store.header.directory) c.loop-page.invariant ∙ (c.requires.directory ∙ ap (λ (x : Activity). x.reach.directory) (sym c.self.view_is))))
+    (sym (ap (λ (store : StoreView). store.header.directory) c.loop-page.invariant ∙ (c.requires.directory ∙ ap (λ (x : Activity). x.reach.directory) (sym c.self.view_is))))
     (omega (arith, below, c.self.invariant.pages))
 
 pub record_lines-requires-clause-before : goal.record_lines-requires-clause-before
@@ -47,7 +47,7 @@ record_lines-requires-clause-room c =
     c.self.inside.seats.holding.pages (pages-below c.self.inside.seats.holding c.locks-locks.result.now c.args.seat c.held_pages-page-items.result.now c.locks-locks.ensures c.self.invariant.seating.whole c.requires.seat c.held_pages-page-items.ensures.each)
     (activity_of c.self.inside).reach.pool c.args.store.now c.loop-page.store c.loop-page.page-index c.loop-page-test.true c.loop-page.invariant
     (ap (λ (begun : Option (List RecordLine)). unwrap_or begun []) c.requires.begun) (subst (λ (x : Activity). size (locks_in x c.args.seat).writes ≤ most_lines c.args.store.now.header) (sym c.self.view_is) c.requires.few) in
-    let same = ap (λ (store : KeptStore). most_lines store.header) c.loop-page.invariant in
+    let same = ap (λ (store : StoreView). most_lines store.header) c.loop-page.invariant in
     let long = ap (λ (lines : List ℕ). length lines) writes in
     room_with (length (begun_of c.loop-page.store.bank)) _ _ _ _ long same room
 

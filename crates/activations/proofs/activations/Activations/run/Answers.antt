@@ -1,5 +1,5 @@
-use Rattle.activations.proofs.Lemmas.{rules, number_in, has, asks_none, asks_on, Counts, Limit, TurnEnd, array_vec_len, Tally, Activity, KeepsDesk, KeepsParts, counted, ComesToEnd, instruction_in, tally_counts, IsStep, IsTurning, IsAtCommit, AreTurns, turn_in, ◌≡◌, ◌+◌, ◌-◌, ◌^◌, ℕ, List, true, length, Result, Ok, refl, ap, arith, sym, ◌∙◌, subst, fetch-on, store-on, keeps-itself, keeps-two, stays-itself, stays-on, handed, ended-by-disk, follows-selected, keeps-far, keeps-ran, keeps-within, so-far, turn-begins, turn-goes, turn-commits, turn-ends, turn-limit}
-use Rattle.activations.specs.declared.instructions.Went.{Went}
+use Rattle.activations.proofs.Lemmas.{rules, number_in, has, asks_none, asks_on, Counts, Limit, TurnEnd, array_vec_len, Tally, Activity, KeepsDesk, KeepsParts, counted, ComesToEnd, instruction_in, tally_counts, IsStepTaken, IsTurning, IsAtCommit, AreTurns, turn_in, ◌≡◌, ◌+◌, ◌-◌, ◌^◌, ℕ, List, true, length, Result, Ok, refl, ap, arith, sym, ◌∙◌, subst, fetch-on, store-on, keeps-itself, keeps-two, stays-itself, stays-on, handed, ended-by-disk, follows-selected, keeps-far, keeps-ran, keeps-within, so-far, turn-begins, turn-goes, turn-commits, turn-ends, turn-limit}
+use Rattle.activations.specs.declared.instructions.StepWent.{StepWent}
 use Rattle.activations.proofs.activations.Activations.run.Goals as goal
 
 pub loop-left-init : goal.loop-left-init
@@ -48,7 +48,7 @@ loop-left-preserved g c =
           let here = store-on g.W.Outside g.met.W.Outside.fewer_later c.args.store.now c.args.outside.now c.loop-left.outside committed inv.asks store in
           let turning = c.in_ok-shut_still.ensures.turns begins c.loop-left.left committed order left here (inv.turns committed order store follows) in
           let here_still = store-on g.W.Outside g.met.W.Outside.fewer_later c.args.store.now c.loop-left.outside c.come_back.new.outside committed c.come_back.ensures.keeps.asks here in
-          let goes = subst (λ (went : Went). IsStep (Ok went) (instruction_in back seat committed order (tally_counts c.come_back.new.tally)) mid seat committed order (tally_counts c.instruct.new.tally)) c.in-On.is (c.in_ok-instruct.ensures.came.step committed order here_still turning.follows) in
+          let goes = subst (λ (went : StepWent). IsStepTaken (Ok went) (instruction_in back seat committed order (tally_counts c.come_back.new.tally)) mid seat committed order (tally_counts c.instruct.new.tally)) c.in-On.is (c.in_ok-instruct.ensures.came.step committed order here_still turning.follows) in
           let on = turn-goes begins back seat c.loop-left.left committed order (tally_counts c.come_back.new.tally) c.sound.ensures.sound came.taken left turning mid (tally_counts c.instruct.new.tally) c.sound-in-On.ensures.sound stays c.instruct.ensures.counts.tally.pages_before goes in
           subst (λ (counts : Counts). IsTurning begins new seat (c.loop-left.left - c.go_far-ran.result.0) committed order counts) (sym (ap tally_counts told))
           (c.go_far-ran.ensures.gone begins committed order (tally_counts c.instruct.new.tally) (c.go_far-ran.result.0 - 1) (c.loop-left.left - c.go_far-ran.result.0) (omega (arith, some))
@@ -104,7 +104,7 @@ returns-in-AtCommit g c = record {
       let so = so-far g.W.Outside g.met.W.Outside.fewer_later c.args.store.now c.args.outside.now c.loop-left.outside c.come_back.new.outside committed _ _ c.loop-left.invariant.asks c.come_back.ensures.keeps.asks store
       (c.in_ok-shut_still.ensures.turns begins c.loop-left.left committed order c.loop-left-test.true)
       (c.loop-left.invariant.turns committed order store (subst (λ (x : Activity). KeepsDesk x committed) (sym c.select.ensures.shape) (follows-selected c.args.self.now c.args.seat committed follows))) in
-      let at = subst (λ (went : Went). IsStep (Ok went) (instruction_in c.come_back.new.self c.args.seat committed order (tally_counts c.come_back.new.tally)) c.instruct.new.self c.args.seat committed order (tally_counts c.instruct.new.tally)) c.in-AtCommit.is (c.in_ok-instruct.ensures.came.step committed order so.0 so.1.follows) in
+      let at = subst (λ (went : StepWent). IsStepTaken (Ok went) (instruction_in c.come_back.new.self c.args.seat committed order (tally_counts c.come_back.new.tally)) c.instruct.new.self c.args.seat committed order (tally_counts c.instruct.new.tally)) c.in-AtCommit.is (c.in_ok-instruct.ensures.came.step committed order so.0 so.1.follows) in
       subst (λ (x : Activity). IsAtCommit (turn_in x c.args.seat c.args.limit committed order (tally_counts c.args.tally.now)) c.instruct.new.self c.args.seat committed order (tally_counts c.instruct.new.tally)) c.select.ensures.shape
       (turn-commits begins c.come_back.new.self c.args.seat c.loop-left.left committed order (tally_counts c.come_back.new.tally) c.sound.ensures.sound c.in_ok-shut_still.ensures.on.stays.taken c.loop-left-test.true so.1 c.instruct.new.self (tally_counts c.instruct.new.tally) c.instruct.ensures.counts.tally.pages_before at);
 }

@@ -1,11 +1,11 @@
 -- The instructions of a turn.
-use Rattle.activations.proofs.Common.{array_vec_len, OnlyAsks, IsSelected, IsStoreOf, KeepsDesk, KeepsParts, StaysSeated, tally_counts, IsTurning, MayBeShut, turn_in, ◌≡◌, ◌≤◌, ◌+◌, ◌*◌, ◌-◌, ℕ, List, length}
+use Rattle.activations.proofs.Common.{array_vec_len, OnlyAsks, IsSeatSelected, IsStoreOf, KeepsDesk, KeepsParts, StaysSeated, tally_counts, IsTurning, MayBeShut, turn_in, ◌≡◌, ◌≤◌, ◌+◌, ◌*◌, ◌-◌, ℕ, List, length}
 use Rattle.activations.proofs.activations.Activations.run.Given as goal
 
 abbrev pub invariant-loop-left : goal.invariant-loop-left
 invariant-loop-left g l = record {
   stays : StaysSeated l.initial.self l.self l.seat;
-  selected : IsSelected l.self l.seat;
+  selected : IsSeatSelected l.self l.seat;
   shut : MayBeShut l.self l.seat l.shut;
   asks : OnlyAsks g.W.Outside l.initial.outside l.outside;
   calm : g.W.Outside.disk_faults l.outside ≡ g.W.Outside.disk_faults l.initial.outside;

@@ -1,4 +1,4 @@
-use Rattle.activations.proofs.Lemmas.{activity_of, Inside, List, Live, reprinted, Activity, live_in, IsSound, KeepsDesk, ◌≡◌, ℕ, sym, ap, ◌∙◌, subst, slice_set, lives-of, sound-reprinted, follows-reprinted}
+use Rattle.activations.proofs.Lemmas.{activity_of, Inside, List, Live, reprinted, Activity, live_in, IsActivitySound, KeepsDesk, ◌≡◌, ℕ, sym, ap, ◌∙◌, subst, slice_set, lives-of, sound-reprinted, follows-reprinted}
 use Rattle.activations.proofs.activations.Activations.swap_printed.Goals as goal
 
 -- what was printed there is another
@@ -9,8 +9,8 @@ is_reprinted fields is seat at live out here runs i = record (is i) { live = sli
 pub invariant_of-self : goal.invariant_of-self
 invariant_of-self c =
     let runs = lives-of c.self.inside c.self.view_is c.self.invariant c.args.seat c.requires.seat c.index_mut.result.now c.from.result c.from.ensures c.index_mut.ensures.value in
-    subst IsSound (sym (is_reprinted c.self.inside c.self.view_is c.args.seat c.from.result c.index_mut.result.now c.swap.new.x c.from.ensures runs))
-    (sound-reprinted c.args.self.now c.args.seat c.swap.new.x c.requires.free (subst IsSound c.self.view_is c.self.invariant))
+    subst IsActivitySound (sym (is_reprinted c.self.inside c.self.view_is c.args.seat c.from.result c.index_mut.result.now c.swap.new.x c.from.ensures runs))
+    (sound-reprinted c.args.self.now c.args.seat c.swap.new.x c.requires.free (subst IsActivitySound c.self.view_is c.self.invariant))
 
 pub returns-clause-left : goal.returns-clause-left
 returns-clause-left c =

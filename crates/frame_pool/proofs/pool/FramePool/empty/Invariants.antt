@@ -1,9 +1,9 @@
-use Rattle.frame_pool.proofs.Common.{◌≡◌, length, emptied}
+use Rattle.frame_pool.proofs.Common.{◌≡◌, length, pool_emptied}
 use Rattle.frame_pool.proofs.pool.FramePool.empty.Given as goal
 
 -- the pages that are left go, and the pool is then as if all of them had gone
 abbrev pub invariant-loop-self : goal.invariant-loop-self
-invariant-loop-self l = emptied l.self ≡ emptied l.initial.self
+invariant-loop-self l = pool_emptied l.self ≡ pool_emptied l.initial.self
 
 abbrev pub decreases-loop-self : goal.decreases-loop-self
 decreases-loop-self l = length l.self.resident

@@ -1,4 +1,4 @@
-use Rattle.seats.proofs.Common.{if◌then◌else◌, slice_set, IsPermutation, and_parts, not-true, sum_by-set, get_or-le-sum_by, All-set, get_or_default, length-set, nothing, of_page, holds_some, IsCounted, ◌≡◌, ◌<◌, ◌≤◌, ◌&&◌, ℕ, false, not, List, [], ◌∷◌, ◌++◌, length, true, refl, arith, ap, sym, ◌∙◌, subst, common_steps}
+use Rattle.seats.proofs.Common.{if◌then◌else◌, slice_set, IsPermutation, and_parts, not-true, sum_by-set, get_or-le-sum_by, All-set, get_or_default, length-set, nothing, of_page, holds_some, AreLinesCounted, ◌≡◌, ◌<◌, ◌≤◌, ◌&&◌, ℕ, false, not, List, [], ◌∷◌, ◌++◌, length, true, refl, arith, ap, sym, ◌∙◌, subst, common_steps}
 use Rattle.seats.proofs.ListedLemmas.{room, some-more, listed-next, listed-moved}
 use Rattle.seats.proofs.seat_lines.SeatLines.add.Goals as goal
 
@@ -29,7 +29,7 @@ invariant_of-self c =
     let pages : List (List ℕ × List ℕ) = c.self.inside.pages.items in
     let page = c.from-page.result in
     let new : List ℕ × List ℕ = (c.union-all.result, c.union-together.result) in
-    let counted : IsCounted pages c.self.inside.written = c.self.invariant.0 in
+    let counted : AreLinesCounted pages c.self.inside.written = c.self.invariant.0 in
     let here : page < length pages = omega (arith, c.requires, c.from-page.ensures, ap length c.self.view_is) in
     let before_it : c.index.result.now ≡ of_page pages page = c.index.ensures ∙ get_or_default pages page c.index.result.now nothing here in
     let sum = sum_by-set (λ (held : List ℕ × List ℕ). length held.1) pages page new nothing here in

@@ -1,4 +1,4 @@
-use Rattle.seats.proofs.Common.{cases_Bool, has, nothing, of_page, IsCounted, AreListed, Ascend, ◌≡◌, ℕ, List, length, replicate, get_or, arith, ap, sym, ◌∙◌, subst, inl, inr}
+use Rattle.seats.proofs.Common.{cases_Bool, has, nothing, of_page, AreLinesCounted, AreListed, Ascend, ◌≡◌, ℕ, List, length, replicate, get_or, arith, ap, sym, ◌∙◌, subst, inl, inr}
 use Rattle.seats.proofs.ListedLemmas.{none-held, all-none, listed-none, listed-at, none-counted}
 use Rattle.seats.proofs.seat_lines.SeatLines.release.Goals as goal
 
@@ -21,7 +21,7 @@ none c =
 
 pub invariant_of-self : goal.invariant_of-self
 invariant_of-self c = (
-  subst (λ (pages : List (List ℕ × List ℕ)). IsCounted pages 0) (sym (none c)) (none-counted (length c.self.inside.pages.items) c.self.invariant.0.few),
+  subst (λ (pages : List (List ℕ × List ℕ)). AreLinesCounted pages 0) (sym (none c)) (none-counted (length c.self.inside.pages.items) c.self.invariant.0.few),
   subst (λ (pages : List (List ℕ × List ℕ)). AreListed pages c.clear-2.new.self.items) (sym (none c))
       (subst (AreListed (replicate (length c.self.inside.pages.items) nothing)) (sym c.clear-2.ensures.items) (listed-none (length c.self.inside.pages.items))),
   omega (arith, c.clear.ensures.long, c.clear.new.pages.ok, c.self.inside.pages.ok, c.self.invariant.2, c.clear-2.ensures.capacity),

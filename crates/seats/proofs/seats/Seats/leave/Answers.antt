@@ -1,4 +1,4 @@
-use Rattle.seats.proofs.Lemmas.{rules, ◌≡◌, ◌==◌, not, filter, sym, ap, ◌∙◌, subst, Seating, IsSeating, left, kept-left}
+use Rattle.seats.proofs.Lemmas.{rules, ◌≡◌, ◌==◌, not, filter, sym, ap, ◌∙◌, subst, Seating, IsSeating, seat_left, kept-left}
 use Rattle.arrayvec.proofs.ArrayVecLemmas.{filter-from_retain}
 use Rattle.seats.proofs.seats.Seats.leave.Goals as goal
 
@@ -14,4 +14,4 @@ invariant_of-self c =
 pub returns : goal.returns
 returns c =
     (λ i. record { taken = others c i; sitters = c.self.inside.sitters.items; holding = c.release.ensures i })
-    ∙ ap (λ (seating : Seating). left seating c.args.seat) c.self.view_is
+    ∙ ap (λ (seating : Seating). seat_left seating c.args.seat) c.self.view_is

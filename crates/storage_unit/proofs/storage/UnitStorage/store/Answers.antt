@@ -1,4 +1,4 @@
-use Rattle.storage_unit.proofs.Lemmas.{true, length, sym, ◌∙◌, ap, answer_in, bytes_from, Reach, place_of, byte_at, is_in_frame, refuses, reach_of, arith, common_steps, begins, shows, others-stay, answers-stay, unit-sound}
+use Rattle.storage_unit.proofs.Lemmas.{true, length, sym, ◌∙◌, ap, answer_in, bytes_from, Reach, byte_place, byte_at, is_in_frame, refuses_byte, reach_of, arith, common_steps, begins, shows, others-stay, answers-stay, unit-sound}
 use Rattle.storage_unit.proofs.storage.UnitStorage.store.Goals as goal
 
 pub put-requires : goal.put-requires
@@ -23,8 +23,8 @@ returns-in-Ok-clause-others c = λ other outside.
 pub returns-in-Ok-clause-answers : goal.returns-in-Ok-clause-answers
 returns-in-Ok-clause-answers c = λ access.
     let unit = c.args.self.now in
-    ap (λ (s : Reach). answer_in (λ (r : Reach). r.registers) is_in_frame refuses s access) c.put.ensures
-    ∙ answers-stay (reach_of unit) (place_of unit.directory c.in-Ok.first) c.args.from.now access
+    ap (λ (s : Reach). answer_in (λ (r : Reach). r.registers) is_in_frame refuses_byte s access) c.put.ensures
+    ∙ answers-stay (reach_of unit) (byte_place unit.directory c.in-Ok.first) c.args.from.now access
 
 pub returns-then-is_empty-clause-shows : goal.returns-then-is_empty-clause-shows
 returns-then-is_empty-clause-shows c = grind (arith, common_steps)

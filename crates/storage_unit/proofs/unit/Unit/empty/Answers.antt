@@ -1,4 +1,4 @@
-use Rattle.storage_unit.proofs.Lemmas.{Fits, fits-stays, emptied, arith, nat_tests, sym, ◌∙◌, ap, subst, List, ℕ, length, Placed, Pair, IsOfTable, Pool, pages_begun, AreReady, AreClear, frames-held, emptied-stays, keys-emptied, none-of_table, opened-none}
+use Rattle.storage_unit.proofs.Lemmas.{PoolFits, fits-stays, pool_emptied, arith, nat_tests, sym, ◌∙◌, ap, subst, List, ℕ, length, Placed, Pair, IsOfTable, Pool, pages_begun, AreReady, AreClear, frames-held, emptied-stays, keys-emptied, none-of_table, opened-none}
 use Rattle.storage_unit.proofs.StateLemmas.{fold-seen}
 use Rattle.storage_unit.proofs.unit.Unit.empty.Goals as goal
 
@@ -15,7 +15,7 @@ invariant_of-self c =
     record {
       sixteen = unit.sixteen;
       legal = unit.legal;
-      fits = subst (Fits unit.directory) (sym new) (fits-stays unit.directory pool unit.fits (emptied pool) (fold-seen pool.resident pool unit.fits.seen) stays);
+      fits = subst (PoolFits unit.directory) (sym new) (fits-stays unit.directory pool unit.fits (pool_emptied pool) (fold-seen pool.resident pool unit.fits.seen) stays);
       entries = ap (λ (t : Placed). length t.entries) table ∙ unit.entries;
       held =
           grind (arith, nat_tests, unit.held, keys-emptied unit.directory unit.legal pool unit.fits.seen unit.fits.size unit.fits.pages (pages_begun unit.directory.page unit.begun));

@@ -1,4 +1,4 @@
-use Rattle.storage_unit.proofs.Lemmas.{List, ℕ, sym, ◌∙◌, ap, subst, Reach, place_of, Lies, byte_at, bytes_from, bytes_shown, reach_of, nat_tests, arith, answer_of, shown-long, open-lies, open-bytes, refused-stays}
+use Rattle.storage_unit.proofs.Lemmas.{List, ℕ, sym, ◌∙◌, ap, subst, Reach, byte_place, Lies, byte_at, bytes_from, bytes_shown, reach_of, nat_tests, arith, answer_of, shown-long, open-lies, open-bytes, refused-stays}
 use Rattle.flat_machine.specs.Effect.{filled}
 use Rattle.storage_unit.proofs.unit.Unit.fill_at.Goals as goal
 
@@ -20,7 +20,7 @@ returns-in-Ok c =
       filled =
           c.fill.ensures
           ∙ ap (λ (list : List ℕ). filled c.args.to c.args.sign list c.args.regs.now)
-          (c.part_in-part.ensures ∙ ap (bytes_shown (reach_of unit) (place_of unit.directory c.args.first)) c.from.ensures
+          (c.part_in-part.ensures ∙ ap (bytes_shown (reach_of unit) (byte_place unit.directory c.args.first)) c.from.ensures
           ∙ open-bytes unit wants c.args.first c.in-Ok.frame c.in-Ok.ensures.open
           ∙ ap (λ (s : Reach). bytes_from (byte_at s) wants.address wants.bytes) c.open.ensures.state);
     }

@@ -1,4 +1,4 @@
-use Rattle.storage_unit.proofs.Lemmas.{◌≡◌, ℕ, true, sym, ◌∙◌, ap, subst, arith, Bool, false, nat_tests, Reach, is_private, offset_of, place_of, on, is_kept_from, line_bytes, PageSize, bytes_on, Virtual, Fault, Probe, leb-true, Lies, reach_of, nat_le, ◌+◌, ◌%◌, ◌≤◌, ◌<◌, answered-private, lies-one, page-fault, lock-fault, line-permitted, second-fault, lines-permitted, private-is, unit-sound, none-of}
+use Rattle.storage_unit.proofs.Lemmas.{◌≡◌, ℕ, true, sym, ◌∙◌, ap, subst, arith, Bool, false, nat_tests, Reach, is_private, offset_of, byte_place, on, is_kept_from, line_bytes, PageSize, bytes_on, Virtual, Fault, Probe, leb-true, Lies, reach_of, nat_le, ◌+◌, ◌%◌, ◌≤◌, ◌<◌, answered-private, lies-one, page-fault, lock-fault, line-permitted, second-fault, lines-permitted, private-is, unit-sound, none-of}
 use Rattle.storage_unit.proofs.unit.Unit.frame_for.Goals as goal
 
 pub private_frame-requires-clause-lies : goal.private_frame-requires-clause-lies
@@ -25,9 +25,9 @@ is_kept_in-requires-2-clause-lies c =
     (lies-one (reach_of c.args.self.now) c.args.first c.args.bytes c.requires.few.0 c.requires.lies)
 
 -- what a line's entry answers, in the state before
-kept-then : (old new : Reach) (first : Virtual) (k : ℕ) (store answer b : Bool) → new ≡ old → answer ≡ is_kept_from new (on (place_of new.directory first) k) store → answer ≡ b
-    → is_kept_from old (on (place_of old.directory first) k) store ≡ b
-kept-then old new first k store answer b stays is was = ap (λ (s : Reach). is_kept_from s (on (place_of s.directory first) k) store) (sym stays) ∙ sym is ∙ was
+kept-then : (old new : Reach) (first : Virtual) (k : ℕ) (store answer b : Bool) → new ≡ old → answer ≡ is_kept_from new (on (byte_place new.directory first) k) store → answer ≡ b
+    → is_kept_from old (on (byte_place old.directory first) k) store ≡ b
+kept-then old new first k store answer b stays is was = ap (λ (s : Reach). is_kept_from s (on (byte_place s.directory first) k) store) (sym stays) ∙ sym is ∙ was
 
 pub returns-then-is_kept_in-clause-answer : goal.returns-then-is_kept_in-clause-answer
 returns-then-is_kept_in-clause-answer c = λ access bytes same.

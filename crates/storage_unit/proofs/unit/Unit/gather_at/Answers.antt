@@ -1,4 +1,4 @@
-use Rattle.storage_unit.proofs.Lemmas.{refl, sym, ◌∙◌, ap, subst, Reach, Lies, located_by, place_of, stored, stored_bytes, reach_of, IsOpenAt, found-answer, found-lies, gathered-at, opens-when, open-after, refused-stays, unit-sound}
+use Rattle.storage_unit.proofs.Lemmas.{refl, sym, ◌∙◌, ap, subst, Reach, Lies, located_by, byte_place, stored, stored_bytes, reach_of, IsOpenAt, found-answer, found-lies, gathered-at, opens-when, open-after, refused-stays, unit-sound}
 use Rattle.storage_unit.proofs.unit.Unit.gather_at.Goals as goal
 
 pub frame_for-requires-clause-lies : goal.frame_for-requires-clause-lies
@@ -15,7 +15,7 @@ keep_line-requires-clause-open c =
     let wants = c.args.wants.now in
     let unit = c.args.self.now in
     subst (λ (s : Reach). IsOpenAt s wants c.args.first c.in-Ok.frame) (sym (c.gather_in.ensures))
-    (open-after (reach_of c.frame_for.new.self) (place_of c.frame_for.new.self.directory c.args.first) (stored_bytes c.args.regs.now wants.bytes c.args.from) wants c.args.first c.in-Ok.frame
+    (open-after (reach_of c.frame_for.new.self) (byte_place c.frame_for.new.self.directory c.args.first) (stored_bytes c.args.regs.now wants.bytes c.args.from) wants c.args.first c.in-Ok.frame
     (subst (λ (s : Reach). IsOpenAt s wants c.args.first c.in-Ok.frame) (sym c.frame_for.ensures.state)
     (opens-when unit wants c.args.first c.in-Ok.frame c.requires.located c.requires.within c.in-Ok.ensures.frame (c.in-Ok.ensures.answer wants refl refl))))
 

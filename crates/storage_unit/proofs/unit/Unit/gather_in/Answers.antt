@@ -1,4 +1,4 @@
-use Rattle.storage_unit.proofs.Lemmas.{fits-part, ◌≡◌, ℕ, ◌+◌, ◌≤◌, List, length, sym, ◌∙◌, ap, subst, arith, page_bytes, stored_bytes, stored_bytes-long, Pool, lines_of_part, put_at, place_of, keys_of, Lies, reach_of, nat_tests, offset_of, ◌-◌, known, after_store, AreUsed, AreOpened, found-below, part-long, pool-after, marked-keys, opened-more, unit-sound, stored-part, ready-part, clear-part}
+use Rattle.storage_unit.proofs.Lemmas.{fits-part, ◌≡◌, ℕ, ◌+◌, ◌≤◌, List, length, sym, ◌∙◌, ap, subst, arith, page_bytes, stored_bytes, stored_bytes-long, Pool, lines_of_part, put_at, byte_place, keys_of, Lies, reach_of, nat_tests, offset_of, ◌-◌, known, after_store, AreUsed, AreOpened, found-below, part-long, pool-after, marked-keys, opened-more, unit-sound, stored-part, ready-part, clear-part}
 use Rattle.storage_unit.proofs.unit.Unit.gather_in.Goals as goal
 
 pub part_mut-requires-clause-frame : goal.part_mut-requires-clause-frame
@@ -48,4 +48,4 @@ returns c =
     let whole : length list ≡ c.args.bytes = stored_bytes-long c.args.regs.now c.args.bytes c.args.from c.told-regs c.requires.fits in
     let is : c.gather.new.into ≡ list = c.gather.ensures ∙ ap (λ m. stored_bytes c.args.regs.now m c.args.from) (part ∙ c.from-2.ensures) in
     stored-part unit c.args.first frame c.from.result n c.requires.frame c.from.ensures fits (omega (arith, c.from-2.ensures, c.requires.fits.some)) (subst (Lies (reach_of unit) c.args.first) (sym c.from-2.ensures) c.requires.lies) c.gather.new.into (ap length is ∙ whole ∙ sym c.from-2.ensures)
-    ∙ ap (put_at (reach_of unit) (place_of unit.directory c.args.first)) is
+    ∙ ap (put_at (reach_of unit) (byte_place unit.directory c.args.first)) is

@@ -1,4 +1,4 @@
-use Rattle.storage_unit.proofs.Lemmas.{fits-lent, ◌≡◌, ◌+◌, ◌-◌, length, sym, ◌∙◌, ap, subst, FitsFrom, stored_bytes, stored_bytes-long, put_at, place_of, offset_of, reach_of, known, after_store, AreUsed, gathered-at, unit-sound, open-room, open-long}
+use Rattle.storage_unit.proofs.Lemmas.{fits-lent, ◌≡◌, ◌+◌, ◌-◌, length, sym, ◌∙◌, ap, subst, FitsFrom, stored_bytes, stored_bytes-long, put_at, byte_place, offset_of, reach_of, known, after_store, AreUsed, gathered-at, unit-sound, open-room, open-long}
 use Rattle.storage_unit.proofs.MarkedLemmas.{stored-over, ready-over, clear-over}
 use Rattle.storage_unit.proofs.unit.Unit.gather_over.Goals.{After-gather, After-spot_mut}
 use Rattle.storage_unit.proofs.unit.Unit.gather_over.Goals as goal
@@ -50,5 +50,5 @@ returns c =
     let after = (goal.at.returns c).After-gather in
     let lent = lent (goal.at.returns c).After-spot_mut in
     stored-over unit wants c.args.line c.requires.wants.fits.some c.requires.wants.kind c.requires.open c.gather.new.into (long after lent)
-    ∙ ap (put_at (reach_of unit) (place_of unit.directory c.args.line.first)) (written after lent)
+    ∙ ap (put_at (reach_of unit) (byte_place unit.directory c.args.line.first)) (written after lent)
     ∙ gathered-at (reach_of unit) (unit-sound unit) wants.address wants.bytes wants.store c.args.line.first c.requires.open.opens.located c.args.regs.now c.args.from c.told-regs c.requires.wants.fits

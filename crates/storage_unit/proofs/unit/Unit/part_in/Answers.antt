@@ -1,4 +1,4 @@
-use Rattle.storage_unit.proofs.Lemmas.{◌∙◌, ap, part_of, reach_of, found-below, part-shown, unit-sound}
+use Rattle.storage_unit.proofs.Lemmas.{◌∙◌, ap, frame_part, reach_of, found-below, part-shown, unit-sound}
 use Rattle.storage_unit.proofs.unit.Unit.part_in.Goals as goal
 
 pub part-requires-clause-frame : goal.part-requires-clause-frame
@@ -10,5 +10,5 @@ pub returns : goal.returns
 returns c =
     let unit = c.args.self.now in
     c.part.ensures
-    ∙ ap (λ byte. part_of unit.pool c.args.frame byte c.args.count) c.from.ensures
+    ∙ ap (λ byte. frame_part unit.pool c.args.frame byte c.args.count) c.from.ensures
     ∙ part-shown (reach_of unit) (unit-sound unit) c.args.first c.args.count c.requires.some c.requires.lies c.args.frame c.requires.frame c.requires.within

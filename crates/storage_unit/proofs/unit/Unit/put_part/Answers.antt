@@ -1,4 +1,4 @@
-use Rattle.storage_unit.proofs.Lemmas.{fits-part, ℕ, List, length, sym, ◌∙◌, ap, subst, Pool, lines_of_part, put_at, place_of, keys_of, reach_of, nat_tests, arith, offset_of, ◌-◌, ◌+◌, common_steps, known, after_store, AreUsed, AreOpened, found-below, found-some, none-of, opened-more, unit-sound, part-long, pool-after, marked-keys, stored-part, ready-part, clear-part}
+use Rattle.storage_unit.proofs.Lemmas.{fits-part, ℕ, List, length, sym, ◌∙◌, ap, subst, Pool, lines_of_part, put_at, byte_place, keys_of, reach_of, nat_tests, arith, offset_of, ◌-◌, ◌+◌, common_steps, known, after_store, AreUsed, AreOpened, found-below, found-some, none-of, opened-more, unit-sound, part-long, pool-after, marked-keys, stored-part, ready-part, clear-part}
 use Rattle.storage_unit.proofs.unit.Unit.put_part.Goals as goal
 
 pub part_mut-requires-clause-frame : goal.part_mut-requires-clause-frame
@@ -36,7 +36,7 @@ pub returns-in-Some : goal.returns-in-Some
 returns-in-Some c =
     let unit = c.args.self.now in
     stored-part unit c.args.first c.in-Some.frame c.from.result (length c.args.from.now) (sym c.frame_at.ensures ∙ c.in-Some.is) c.from.ensures c.requires.within c.requires.can.some c.requires.can.lies c.copy_from_slice.new.self (ap length c.copy_from_slice.ensures.after)
-    ∙ ap (put_at (reach_of unit) (place_of unit.directory c.args.first)) c.copy_from_slice.ensures.after
+    ∙ ap (put_at (reach_of unit) (byte_place unit.directory c.args.first)) c.copy_from_slice.ensures.after
 
 pub returns-in_default : goal.returns-in_default
 returns-in_default c =

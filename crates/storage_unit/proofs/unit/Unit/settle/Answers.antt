@@ -1,4 +1,4 @@
-use Rattle.storage_unit.proofs.Lemmas.{Fits, fits-settled, ap, subst, sym, ◌∙◌, List, ℕ, arith, Pool, keys_of, AreReady, AreClear, opened-none}
+use Rattle.storage_unit.proofs.Lemmas.{PoolFits, fits-settled, ap, subst, sym, ◌∙◌, List, ℕ, arith, Pool, keys_of, AreReady, AreClear, opened-none}
 use Rattle.storage_unit.proofs.unit.Unit.settle.Goals as goal
 
 pub settle-requires : goal.settle-requires
@@ -11,7 +11,7 @@ invariant_of-self c =
     record {
       sixteen = unit.sixteen;
       legal = unit.legal;
-      fits = subst (Fits unit.directory) (sym new) (fits-settled unit.directory unit.pool unit.fits c.args.page c.args.lines c.requires);
+      fits = subst (PoolFits unit.directory) (sym new) (fits-settled unit.directory unit.pool unit.fits c.args.page c.args.lines c.requires);
       entries = unit.entries;
       held = unit.held ∙ sym (ap (λ (p : Pool). keys_of unit.directory unit.begun p.frames p.page_in) new);
       remembered = unit.remembered;

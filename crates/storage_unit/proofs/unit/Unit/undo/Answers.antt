@@ -1,4 +1,4 @@
-use Rattle.storage_unit.proofs.Lemmas.{Fits, fits-stays, fits-settled, gone, seen-gone, sym, ◌∙◌, ap, subst, List, ℕ, length, Option, None, arith, slice_set, option_map_or, Key, Placed, Pool, IsSeen, frame_at, settled, gone-stays, keys_of, pages_begun, AreReady, AreClear, frames-held, keys-gone, without-keys, without-entries, opened-none}
+use Rattle.storage_unit.proofs.Lemmas.{PoolFits, fits-stays, fits-settled, gone, seen-gone, sym, ◌∙◌, ap, subst, List, ℕ, length, Option, None, arith, slice_set, option_map_or, Key, Placed, Pool, IsSeen, frame_at, settled, gone-stays, keys_of, pages_begun, AreReady, AreClear, frames-held, keys-gone, without-keys, without-entries, opened-none}
 use Rattle.storage_unit.proofs.LeaveLemmas.{seen-settled}
 use Rattle.storage_unit.proofs.unit.Unit.undo.Goals as goal
 
@@ -20,7 +20,7 @@ invariant_of-self c =
     record {
       sixteen = unit.sixteen;
       legal = unit.legal;
-      fits = subst (Fits unit.directory) (sym new) (fits-stays unit.directory between (fits-settled unit.directory pool unit.fits c.args.page c.args.lines c.requires) (gone between c.args.page) (seen-gone between c.args.page seen) stays);
+      fits = subst (PoolFits unit.directory) (sym new) (fits-stays unit.directory between (fits-settled unit.directory pool unit.fits c.args.page c.args.lines c.requires) (gone between c.args.page) (seen-gone between c.args.page seen) stays);
       entries = ap (λ (t : Placed). length t.entries) table ∙ ap length (without-entries unit.table (frame_at pool c.args.page)) ∙ unit.entries;
       held =
           ap (λ (t : Placed). t.keys) table

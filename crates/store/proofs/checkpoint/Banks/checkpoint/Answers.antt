@@ -1,5 +1,5 @@
-use Rattle.store.proofs.Lemmas.{common_steps, IsCheckpointed, ◌≡◌, ℕ, ◌+◌, List, [], length, refl, sym, subst, ◌∙◌, ap, arith, replicate, length-replicate, get_or-replicate, Which, Header, header_of, area_at, IsStore, Leaves, held_of, leaves_held, KeptBank, TracksBank, HoldsRecords, turned, place_is, other, IsSame, IsMoved, Option, None, take, held_since}
-use Rattle.store.specs.Kept.{number_of}
+use Rattle.store.proofs.Lemmas.{common_steps, IsCheckpointed, ◌≡◌, ℕ, ◌+◌, List, [], length, refl, sym, subst, ◌∙◌, ap, arith, replicate, length-replicate, get_or-replicate, Which, Header, header_of, area_at, IsStore, Leaves, held_of, leaves_held, BankView, TracksBank, HoldsRecords, bank_turned, place_is, other, IsSame, IsMoved, Option, None, take, held_since}
+use Rattle.store.specs.Kept.{bank_number}
 use Rattle.store.proofs.checkpoint.Banks.checkpoint.Given.{Over}
 use Rattle.store.proofs.checkpoint.Banks.checkpoint.Goals as goal
 use Rattle.store.proofs.checkpoint.Banks.checkpoint.Goals.{After-move_to, After-turn_to}
@@ -8,7 +8,7 @@ use Rattle.store.proofs.checkpoint.Banks.checkpoint.Goals.{After-move_to, After-
 crash : (g : Over) (c : goal.After-move_to g) (tracks : TracksBank g.W.Outside c.args.self.now c.args.outside.now)
     → Leaves g.W.Outside (λ image seen. IsSame tracks.header c.args.self.now tracks.records (held_of g.W.Outside c.args.outside.now) image) c.args.outside.now c.move_to.new.outside
 crash g c =
-    subst (λ (bank : KeptBank). (tracks : TracksBank g.W.Outside bank c.args.outside.now) → Leaves g.W.Outside (λ image seen. IsSame tracks.header bank tracks.records (held_of g.W.Outside c.args.outside.now) image) c.args.outside.now c.move_to.new.outside) c.self.view_is c.move_to.ensures.crash
+    subst (λ (bank : BankView). (tracks : TracksBank g.W.Outside bank c.args.outside.now) → Leaves g.W.Outside (λ image seen. IsSame tracks.header bank tracks.records (held_of g.W.Outside c.args.outside.now) image) c.args.outside.now c.move_to.new.outside) c.self.view_is c.move_to.ensures.crash
 
 -- the bytes held are one of them
 held : (g : Over) (c : goal.After-move_to g) (tracks : TracksBank g.W.Outside c.args.self.now c.args.outside.now) → IsSame tracks.header c.args.self.now tracks.records (held_of g.W.Outside c.args.outside.now) (held_of g.W.Outside c.move_to.new.outside)
@@ -27,17 +27,17 @@ made g c tracks =
     let bank = c.args.self.now in
     let away = other bank.which in
     let new = held_of G c.move_to.new.outside in
-    let moved = subst (λ (those : KeptBank). (tracks : TracksBank G those c.args.outside.now) → IsMoved G tracks.header those c.args.outside.now c.move_to.new.outside) c.self.view_is c.in-Ok.ensures.done tracks in
+    let moved = subst (λ (those : BankView). (tracks : TracksBank G those c.args.outside.now) → IsMoved G tracks.header those c.args.outside.now c.move_to.new.outside) c.self.view_is c.in-Ok.ensures.done tracks in
     let chose : c.other_of-which.result ≡ other c.self.inside.bank.which = c.other_of-which.ensures ∙ ap other c.which.ensures in
-    let kept : c.turn_to.new.self ≡ turned away bank = c.turn_to.ensures.turned ∙ ap (λ (which : Which). turned which c.self.inside.bank) chose ∙ ap (λ (those : KeptBank). turned (other those.which) those) c.self.view_is in
+    let kept : c.turn_to.new.self ≡ bank_turned away bank = c.turn_to.ensures.turned ∙ ap (λ (which : Which). bank_turned which c.self.inside.bank) chose ∙ ap (λ (those : BankView). bank_turned (other those.which) those) c.self.view_is in
     let lines : length (replicate {A = Option ℕ} (length bank.newest) None) ≡ length bank.newest = length-replicate {A = Option ℕ} (length bank.newest) None in
-    let gate : area_at tracks.header away ≡ (turned away bank).gate = ap (λ (n : ℕ). n + 8) (place_is tracks.header away bank.bank_bytes tracks.bank_bytes) in
+    let gate : area_at tracks.header away ≡ (bank_turned away bank).gate = ap (λ (n : ℕ). n + 8) (place_is tracks.header away bank.bank_bytes tracks.bank_bytes) in
     let said : header_of (take 128 (held_of G c.args.outside.now)) ≡ tracks.header = tracks.store.said in
-    let now : TracksBank G (turned away bank) c.move_to.new.outside = record {
+    let now : TracksBank G (bank_turned away bank) c.move_to.new.outside = record {
       sure = moved.sure;
       header = tracks.header;
       records = [];
-      store = subst (λ (n : ℕ). IsStore new tracks.header away (number_of bank) n []) gate moved.store;
+      store = subst (λ (n : ℕ). IsStore new tracks.header away (bank_number bank) n []) gate moved.store;
       page = tracks.page;
       bank_bytes = tracks.bank_bytes;
       bound = tracks.bound ∙ sym lines;
@@ -45,13 +45,13 @@ made g c tracks =
       newest = λ line below. get_or-replicate (length bank.newest) line None None (omega (arith, below, lines));
     } in
     record {
-      tracks = subst (λ (those : KeptBank). TracksBank G those c.move_to.new.outside) (sym kept) now;
+      tracks = subst (λ (those : BankView). TracksBank G those c.move_to.new.outside) (sym kept) now;
       stood = moved.stood;
       header = moved.store.said ∙ sym said;
       emptied = λ image seen left.
-          let there : HoldsRecords tracks.header away (number_of bank) [] new = record { gate = area_at tracks.header away; store = moved.store } in
-          subst (λ (those : List ℕ). HoldsRecords (header_of (take 128 (held_of G c.args.outside.now))) away (number_of bank) [] those) (sym (leaves_held G c.move_to.new.outside moved.sure image seen left))
-          (subst (λ (those : Header). HoldsRecords those away (number_of bank) [] new) (sym said) there);
+          let there : HoldsRecords tracks.header away (bank_number bank) [] new = record { gate = area_at tracks.header away; store = moved.store } in
+          subst (λ (those : List ℕ). HoldsRecords (header_of (take 128 (held_of G c.args.outside.now))) away (bank_number bank) [] those) (sym (leaves_held G c.move_to.new.outside moved.sure image seen left))
+          (subst (λ (those : Header). HoldsRecords those away (bank_number bank) [] new) (sym said) there);
     }
 
 pub returns-in-Ok : goal.returns-in-Ok

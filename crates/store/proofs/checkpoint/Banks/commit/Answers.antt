@@ -1,4 +1,4 @@
-use Rattle.store.proofs.Lemmas.{◌≡◌, inl, sym, subst, ◌∙◌, ap, arith, Option, IfSome, held_of, None, Some, KeptBank, emptied, roomy, Commits, CountsKept, FailedLeaves, bank_appended, kept_in, Kept, appended_apart, carried, leaves_committed, kept_after, roomy_full, roomy_fits, two_more}
+use Rattle.store.proofs.Lemmas.{◌≡◌, inl, sym, subst, ◌∙◌, ap, arith, Option, IfSome, held_of, None, Some, BankView, emptied, roomy, Commits, CountsKept, FailedLeaves, bank_appended, kept_in, Kept, appended_apart, carried, leaves_committed, kept_after, roomy_full, roomy_fits, two_more}
 use Rattle.store.proofs.checkpoint.Banks.commit.Goals as goal
 
 -- a full bank was left alone, and so was the disk
@@ -9,7 +9,7 @@ returns-in-None g c =
     let new = c.commit_behind_checkpoint.new.self in
     let now = c.commit_behind_checkpoint.new.outside in
     let full = c.kept.ensures.full c.in-None.is in
-    subst (λ (there : KeptBank). Commits G there old new c.args.outside.now now c.commit_behind_checkpoint.result) (sym (roomy_full old (c.append.ensures.full.0 full)))
+    subst (λ (there : BankView). Commits G there old new c.args.outside.now now c.commit_behind_checkpoint.result) (sym (roomy_full old (c.append.ensures.full.0 full)))
     (carried (λ bank w. Commits G (emptied bank) bank new w now c.commit_behind_checkpoint.result)
     c.append.new.self old c.append.new.outside c.args.outside.now
     (c.append.ensures.kept ∙ ap (λ (answer : Option Kept). bank_appended answer old) (sym c.kept.ensures.value ∙ c.in-None.is))
@@ -24,7 +24,7 @@ returns-in-Some g c =
     let kept = c.in-Some.kept in
     let told : kept_in c.append.result ≡ Some kept = sym c.kept.ensures.value ∙ c.in-Some.is in
     let here : roomy bank ≡ bank = roomy_fits bank (λ full. let no : None ≡ Some kept = sym (ap kept_in (c.append.ensures.full.1 full)) ∙ told in cc) in
-    subst (λ (there : KeptBank). Commits G there bank c.append.new.self before after kept) (sym here) (record {
+    subst (λ (there : BankView). Commits G there bank c.append.new.self before after kept) (sym here) (record {
       only = c.append.ensures.only;
       shape = c.append.ensures.shape;
       kept = kept_after kept bank bank c.append.new.self (c.append.ensures.kept ∙ ap (λ (answer : Option Kept). bank_appended answer bank) told);

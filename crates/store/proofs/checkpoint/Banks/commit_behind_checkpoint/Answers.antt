@@ -1,4 +1,4 @@
-use Rattle.store.proofs.Lemmas.{◌≡◌, inl, inr, ⊎_elim, ℕ, List, [], sym, subst, ◌∙◌, ap, arith, Option, IfSome, Some, Header, RecordLine, stands, one_more, Leaves, held_of, leaves_on, KeptBank, begun_of, TracksBank, IsEither, HoldsOneOf, HoldsCommitted, IsSameBut, IsCommitOffset, needed_end, writes_on, other, emptied, CountsKept, FailedLeaves, bank_appended, kept_in, Kept, IsApart, but_on, adds_same, appended_apart, behind_apart, leaves_committed, answered_by, counts_on, either_same, failed_behind, kept_after, shape_on, two_more, nil_from_length}
+use Rattle.store.proofs.Lemmas.{◌≡◌, inl, inr, ⊎_elim, ℕ, List, [], sym, subst, ◌∙◌, ap, arith, Option, IfSome, Some, Header, RecordLine, stands, one_more, Leaves, held_of, leaves_on, BankView, begun_of, TracksBank, IsEither, HoldsOneOf, HoldsCommitted, IsSameBut, IsCommitOffset, needed_end, writes_on, other, emptied, CountsKept, FailedLeaves, bank_appended, kept_in, Kept, IsApart, but_on, adds_same, appended_apart, behind_apart, leaves_committed, answered_by, counts_on, either_same, failed_behind, kept_after, shape_on, two_more, nil_from_length}
 use Rattle.store.proofs.checkpoint.Banks.commit_behind_checkpoint.Given.{Over}
 use Rattle.store.proofs.checkpoint.Banks.commit_behind_checkpoint.Goals as goal
 use Rattle.store.proofs.checkpoint.Banks.commit_behind_checkpoint.Goals.{After-checkpoint}
@@ -54,7 +54,7 @@ returns-in-Ok g c =
           (λ image seen left. inl (stood g at tracks image seen left))
           (λ image seen left.
           either_same (other old.which) old (held_of G before) (held_of G mid) image seen made.stood
-          (subst (λ (bank : KeptBank). IsEither (begun_of bank) (held_of G mid) image seen) turned (c.append.ensures.crash made.tracks image seen left)));
+          (subst (λ (bank : BankView). IsEither (begun_of bank) (held_of G mid) image seen) turned (c.append.ensures.crash made.tracks image seen left)));
       left = λ tracks.
           let made = c.in-Ok.ensures.done tracks in
           failed_behind G g.met.W.Outside.fewer_later old bank before mid after first.calls.time later.calls.time turned made.stood (stood g at tracks) kept
@@ -63,24 +63,24 @@ returns-in-Ok g c =
           let made = c.in-Ok.ensures.done tracks in
           let now = held_of G after in
           let header : made.tracks.header ≡ tracks.header = sym made.tracks.store.said ∙ made.header ∙ tracks.store.said in
-          let none : made.tracks.records ≡ [] = nil_from_length made.tracks.records (made.tracks.count ∙ ap (λ (bank : KeptBank). bank.count) turned) in
+          let none : made.tracks.records ≡ [] = nil_from_length made.tracks.records (made.tracks.count ∙ ap (λ (bank : BankView). bank.count) turned) in
           let held : HoldsCommitted tracks.header old tracks.records now =
           inr (subst (λ (those : Header). HoldsOneOf those (other old.which) (emptied old).base [] (begun_of (emptied old)) now) header
           (subst (λ (those : List (List RecordLine)). HoldsOneOf made.tracks.header (other old.which) (emptied old).base those (begun_of (emptied old)) now) none
-          (subst (λ (bank : KeptBank). HoldsOneOf made.tracks.header bank.which bank.base made.tracks.records (begun_of bank) now) turned (c.append.ensures.records made.tracks)))) in
+          (subst (λ (bank : BankView). HoldsOneOf made.tracks.header bank.which bank.base made.tracks.records (begun_of bank) now) turned (c.append.ensures.records made.tracks)))) in
           let offsets = IsCommitOffset tracks.header (emptied old) old tracks.records in
           leaves_committed G g.met.W.Outside.fewer_later g.met.W.Outside.held_now before after (writes_on G g.met.W.Outside.fewer_later before mid after first later) tracks.sure.told tracks.header (emptied old) old tracks.records held
           (leaves_on G g.met.W.Outside.fewer_later before mid after first.calls.time later.calls.time (λ (image seen : List ℕ). IsSameBut offsets (held_of G before) image)
           (λ image seen left. behind_apart tracks.header old tracks.records (held_of G before) image (c.checkpoint.ensures.crash tracks image seen left).apart)
           (λ image seen left.
           but_on offsets (held_of G before) (held_of G mid) image (behind_apart tracks.header old tracks.records (held_of G before) (held_of G mid) (c.checkpoint.ensures.held tracks).apart)
-          (appended_apart tracks.header (emptied old) old tracks.records (held_of G mid) image (subst (λ (that : KeptBank). IsApart that.gate (needed_end that) (held_of G mid) image) turned (c.append.ensures.apart made.tracks image seen left)))));
+          (appended_apart tracks.header (emptied old) old tracks.records (held_of G mid) image (subst (λ (that : BankView). IsApart that.gate (needed_end that) (held_of G mid) image) turned (c.append.ensures.apart made.tracks image seen left)))));
       done = λ is tracks.
           let made = c.in-Ok.ensures.done tracks in
           let added = c.append.ensures.done (c.kept.ensures.done (answered ∙ ap Some is)) made.tracks in
           record {
             tracks = added.tracks;
-            stood = added.stood ∙ ap (λ (bank : KeptBank). one_more (begun_of bank) (stands (held_of G mid))) turned ∙ adds_same (other old.which) old (stands (held_of G mid)) (stands (held_of G before)) made.stood;
+            stood = added.stood ∙ ap (λ (bank : BankView). one_more (begun_of bank) (stands (held_of G mid))) turned ∙ adds_same (other old.which) old (stands (held_of G mid)) (stands (held_of G before)) made.stood;
             header = added.header ∙ made.header;
           };
     }

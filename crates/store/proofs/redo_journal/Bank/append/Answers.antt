@@ -1,4 +1,4 @@
-use Rattle.store.proofs.Lemmas.{nat_tests, ◌≡◌, ℕ, ◌+◌, ◌*◌, List, [], ◌∷◌, ◌++◌, length, drop, slice_set, refl, sym, subst, ◌∙◌, ap, arith, rules, length-append, Option, None, Some, IfSome, SameShape, IsAppended, entry_bytes, RecordLine, lines_from, wrong_line, record_bytes, length-take-le, leaves_held, IsStore, stands, one_more, held_of, noted, AreNewest, KeptBank, end_of, begun_of, spoilt, begun_count, begun_lines, kept_of, TracksBank, IsEither, HoldsOneOf, IsSafe, IsShut, needed_end, take, IsReadied, make_ready, shut, either, one_of, same, more, after, doubted, filled_lines, says_room, begun_is, fields_tracked, with_record_is, is_begun, unwrapped, below_in_order, newest_more, held_left, Appends, CountsKept, FailedLeaves, bank_appended, kept_in, Kept}
+use Rattle.store.proofs.Lemmas.{nat_tests, ◌≡◌, ℕ, ◌+◌, ◌*◌, List, [], ◌∷◌, ◌++◌, length, drop, slice_set, refl, sym, subst, ◌∙◌, ap, arith, rules, length-append, Option, None, Some, IfSome, SameShape, IsAppended, entry_bytes, RecordLine, lines_from, wrong_line, record_bytes, length-take-le, leaves_held, IsStore, stands, one_more, held_of, noted, AreNewest, BankView, end_of, begun_of, spoilt, begun_count, begun_lines, kept_of, TracksBank, IsEither, HoldsOneOf, IsSafe, IsGateShut, needed_end, take, IsReadied, make_ready, shut, either, one_of, same, more, after, doubted, filled_lines, says_room, begun_is, fields_tracked, with_record_is, is_begun, unwrapped, below_in_order, newest_more, held_left, Appends, CountsKept, FailedLeaves, bank_appended, kept_in, Kept}
 use Rattle.store.specs.declared.keep.Appended.{Appended}
 use Rattle.store.specs.declared.keep.Appended.TheVariants as appending
 use Rattle.store.specs.declared.keep.Kept.TheVariants as keeping
@@ -45,16 +45,16 @@ note-requires-clause-ordered g c =
     rw (← n) (ap (wrong_line (length c.self.inside.newest) 0) (filled_lines c.self.inside c.fill.new.body c.as_slice.result.now (rw n c.fill.ensures.lines) c.as_slice.ensures) ∙ c.self.invariant.ordered)
 
 -- the gate is shut
-shut_gate : (g : Over) (c : goal.After-keep_body g) → TracksBank g.W.Outside c.args.self.now c.args.outside.now → IsShut g.W.Outside c.self.inside.gate c.args.outside.now
+shut_gate : (g : Over) (c : goal.After-keep_body g) → TracksBank g.W.Outside c.args.self.now c.args.outside.now → IsGateShut g.W.Outside c.self.inside.gate c.args.outside.now
 shut_gate g c tracks = record { sure = tracks.sure; shut = shut _ _ _ _ _ _ _ _ _ (ready g c tracks).ready }
 
 -- an image of now is one since the start
-since : (g : Over) (c : goal.After-keep_body g) → IsShut g.W.Outside c.self.inside.gate c.args.outside.now → (image seen : List ℕ) → g.W.Outside.left_since c.keep_body.new.outside (g.W.Outside.moment c.keep_body.new.outside) image seen
+since : (g : Over) (c : goal.After-keep_body g) → IsGateShut g.W.Outside c.self.inside.gate c.args.outside.now → (image seen : List ℕ) → g.W.Outside.left_since c.keep_body.new.outside (g.W.Outside.moment c.keep_body.new.outside) image seen
     → IsSafe c.self.inside.gate c.record_of.result.now (held_of g.W.Outside c.args.outside.now) image
 since g c shut image seen left = c.keep_body.ensures.crash shut image seen (g.met.W.Outside.fewer_later c.keep_body.new.outside _ _ image seen c.keep_body.ensures.only.calls.time.later left)
 
 -- what an append leaves that found room, where it is answered by how the body was kept
-appends : (g : Over) (c : goal.After-keep_body g) (new : KeptBank) (answer : Appended) → kept_in answer ≡ Some c.keep_body.result → new ≡ bank_appended (kept_in answer) c.args.self.now → SameShape c.args.self.now new
+appends : (g : Over) (c : goal.After-keep_body g) (new : BankView) (answer : Appended) → kept_in answer ≡ Some c.keep_body.result → new ≡ bank_appended (kept_in answer) c.args.self.now → SameShape c.args.self.now new
     → (TracksBank g.W.Outside c.args.self.now c.args.outside.now → IfSome (kept_in answer) (FailedLeaves g.W.Outside c.args.self.now c.args.self.now c.args.outside.now c.keep_body.new.outside))
     → (answer ≡ appending.Done → TracksBank g.W.Outside c.args.self.now c.args.outside.now → IsAppended g.W.Outside c.args.self.now new c.args.outside.now c.keep_body.new.outside)
     → Appends g.W.Outside c.args.self.now new c.args.outside.now c.keep_body.new.outside answer
@@ -78,7 +78,7 @@ appends g c new answer told kept shape failed done =
       apart = λ tracks image seen was.
           let safe = c.keep_body.ensures.crash (shut_gate g c tracks) image seen was in
           let n = count g c in
-          let at : bank.gate ≡ old.gate = ap (λ (those : KeptBank). those.gate) c.self.view_is in
+          let at : bank.gate ≡ old.gate = ap (λ (those : BankView). those.gate) c.self.view_is in
           let sized_by = ap (λ (k : ℕ). entry_bytes bank.page * k) n in
           let long : length c.record_of.result.now ≡ 11 + c.from-bytes.result = omega (arith, sized g c, ap length c.record_of.ensures, length-take-le (record_bytes bank.page c.unwrap-begun.result) c.fill.new.body (omega (arith, c.fill.ensures.len, c.self.invariant.buffer, c.self.invariant.fits, sized_by)), sized_by) in
           let end : bank.gate + 1 + length c.record_of.result.now ≡ needed_end old = omega (arith, long, sized g c, says.need) in
@@ -90,7 +90,7 @@ appends g c new answer told kept shape failed done =
       left = failed;
       records = λ tracks.
           let now = held_left G g.met.W.Outside.held_now after (c.keep_body.ensures.only.told tracks.sure.told) in
-          subst (λ (kept : KeptBank). HoldsOneOf tracks.header kept.which kept.base tracks.records (begun_of kept) (held_of G after)) c.self.view_is
+          subst (λ (kept : BankView). HoldsOneOf tracks.header kept.which kept.base tracks.records (begun_of kept) (held_of G after)) c.self.view_is
           (subst (λ (lines : List RecordLine). HoldsOneOf tracks.header bank.which bank.base tracks.records lines (held_of G after)) (begun_is bank (kept_of bank) refl)
           (one_of _ _ _ _ _ _ _ _ _ (ready g c tracks).ready (held_of G after) (since g c (shut_gate g c tracks) (held_of G after) now.0 now.1)));
       done = done;
@@ -112,7 +112,7 @@ returns-in-Doubt g c =
     appends g at _ appending.Doubt (ap Some (sym c.in-Doubt.is)) (ap spoilt c.self.view_is) (search rules)
     (λ tracks image seen left.
     let shut = shut_gate g at tracks in
-    subst (λ (n : ℕ). stands (slice_set image n 0xA5) ≡ one_more (begun_of c.args.self.now) stood) (ap (λ (bank : KeptBank). bank.gate) c.self.view_is)
+    subst (λ (n : ℕ). stands (slice_set image n 0xA5) ≡ one_more (begun_of c.args.self.now) stood) (ap (λ (bank : BankView). bank.gate) c.self.view_is)
     (doubted _ _ _ _ _ _ _ _ _ (ready g at tracks).ready image (since g at shut image seen left) (c.keep_body.ensures.doubt c.in-Doubt.is shut image seen left) ∙ ap (λ (lines : List RecordLine). one_more lines stood) (begun g at)))
     (λ is. cc)
 

@@ -1,4 +1,4 @@
-use Rattle.store.proofs.Lemmas.{nat_tests, ◌≡◌, ℕ, ◌+◌, ◌*◌, List, length, drop, refl, sym, subst, ◌∙◌, ap, arith, Option, None, length-replicate, entry_bytes, RecordLine, wrong_line, end_of, AreWithin, begun_count, begun_lines, kept_of, length-begun, lines_placed, placed_order, none_within, turned_fields, turned_is}
+use Rattle.store.proofs.Lemmas.{nat_tests, ◌≡◌, ℕ, ◌+◌, ◌*◌, List, length, drop, refl, sym, subst, ◌∙◌, ap, arith, Option, None, length-replicate, entry_bytes, RecordLine, wrong_line, end_of, AreNewestWithin, begun_count, begun_lines, kept_of, length-begun, lines_placed, placed_order, none_within, turned_fields, turned_is}
 use Rattle.store.proofs.redo_journal.Bank.turn_to.Goals as goal
 
 pub invariant_of-self : goal.invariant_of-self
@@ -12,7 +12,7 @@ invariant_of-self c =
       some_bytes = old.some_bytes;
       few_bytes = old.few_bytes;
       inside = omega (arith, c.place_of.ensures.end, old.some_bytes);
-      placed = subst (λ (newest : List (Option ℕ)). AreWithin c.self.inside.page (end_of c.args.which bank.bank_bytes) newest) (sym c.forget.ensures) (none_within c.self.inside.page (end_of c.args.which bank.bank_bytes) (length bank.newest));
+      placed = subst (λ (newest : List (Option ℕ)). AreNewestWithin c.self.inside.page (end_of c.args.which bank.bank_bytes) newest) (sym c.forget.ensures) (none_within c.self.inside.page (end_of c.args.which bank.bank_bytes) (length bank.newest));
       few_lines = omega (arith, old.few_lines, long);
       few_records = omega arith;
       buffer = old.buffer;

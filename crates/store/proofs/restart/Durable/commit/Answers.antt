@@ -1,4 +1,4 @@
-use Rattle.store.proofs.Lemmas.{common_steps, ◌≡◌, ap, subst, sym, ◌∙◌, arith, total, held_of, KeptBank, KeptStore, roomy, Commits, IsKeptAfter, bank_tracked, store_tracked, total_is, committed_intact, usable_kept, number_kept, count_kept, Kept}
+use Rattle.store.proofs.Lemmas.{common_steps, ◌≡◌, ap, subst, sym, ◌∙◌, arith, total, held_of, BankView, StoreView, roomy, Commits, IsKeptAfter, bank_tracked, store_tracked, total_is, committed_intact, usable_kept, number_kept, count_kept, Kept}
 use Rattle.store.proofs.restart.Durable.commit.Goals as goal
 
 pub commit-requires : goal.commit-requires
@@ -6,7 +6,7 @@ commit-requires g c = record {
   begun = grind (arith, common_steps);
   usable = grind (arith, common_steps);
   room = λ held is.
-      omega (arith, c.requires.room held is, total_is c.self.inside.header c.self.inside.banks c.self.invariant, ap (λ (store : KeptStore). total store.header) c.self.view_is);
+      omega (arith, c.requires.room held is, total_is c.self.inside.header c.self.inside.banks c.self.invariant, ap (λ (store : StoreView). total store.header) c.self.view_is);
 }
 
 pub returns : goal.returns
@@ -17,8 +17,8 @@ returns g c =
     let before = c.args.outside.now in
     let after = c.commit.new.outside in
     -- what the banks did, of the bank that was kept
-    let did = subst (λ (kept : KeptBank). Commits G (roomy kept) kept bank before after c.commit.result) (ap (λ (store : KeptStore). store.bank) c.self.view_is) c.commit.ensures in
-    let header : old.header ≡ c.self.inside.header = ap (λ (store : KeptStore). store.header) (sym c.self.view_is) in
+    let did = subst (λ (kept : BankView). Commits G (roomy kept) kept bank before after c.commit.result) (ap (λ (store : StoreView). store.bank) c.self.view_is) c.commit.ensures in
+    let header : old.header ≡ c.self.inside.header = ap (λ (store : StoreView). store.header) (sym c.self.view_is) in
     let shape = c.commit.ensures.shape in
     record {
       only = did.only;

@@ -1,13 +1,13 @@
-use Rattle.store.proofs.Lemmas.{◌≡◌, ℕ, List, [], ap, subst, sym, IsSome, ◌∙◌, arith, Option, unwrap_or, total, HasHeader, held_of, IsChosen, ReopenFault, IsStoreReopenFault, KeptStore, Fits, Shows, IsStoreWith, asks_on, sure_on, shows_read, reopening_fault, intact_fault, total_is, rules, common_steps, IfErr-weaker, on_ok_weaker}
+use Rattle.store.proofs.Lemmas.{◌≡◌, ℕ, List, [], ap, subst, sym, IsSome, ◌∙◌, arith, Option, unwrap_or, total, HasHeader, held_of, IsChosen, ReopenFault, IsStoreReopenFault, StoreView, Fits, Shows, IsStoreWith, asks_on, sure_on, shows_read, reopening_fault, intact_fault, total_is, rules, common_steps, IfErr-weaker, on_ok_weaker}
 use Rattle.store.specs.Below.{chosen}
 use Rattle.store.specs.Opened.{IsBankReopenFault}
-use Rattle.store.specs.declared.fault.ReopenFault.TheVariants as reopening
+use Rattle.store.specs.declared.open_fault.ReopenFault.TheVariants as reopening
 use Rattle.store.proofs.restart.Durable.reopen.Goals as goal
 
 pub reopen-requires : goal.reopen-requires
 reopen-requires g c = record {
   room = λ held is.
-      omega (arith, c.requires.room held (sym c.synced.ensures.asks.held ∙ is), total_is c.self.inside.header c.self.inside.banks c.self.invariant, ap (λ (store : KeptStore). total store.header) c.self.view_is);
+      omega (arith, c.requires.room held (sym c.synced.ensures.asks.held ∙ is), total_is c.self.inside.header c.self.inside.banks c.self.invariant, ap (λ (store : StoreView). total store.header) c.self.view_is);
 }
 
 -- the bytes are those at the start, and a fault of the banks is one of the store
@@ -30,7 +30,7 @@ returns-in-Ok g c =
     } in
     let chosen_fault = IsBankReopenFault G c.synced.new.outside c.reopen.new.outside (chosen (held_of G c.synced.new.outside)) c.self.inside.banks in
     let fault_is : (fault : ReopenFault) → chosen_fault fault → IsStoreReopenFault G old c.reopen.new.outside c.args.self.now.header fault =
-    λ fault is. subst (λ (store : KeptStore). IsStoreReopenFault G old c.reopen.new.outside store.header fault) c.self.view_is
+    λ fault is. subst (λ (store : StoreView). IsStoreReopenFault G old c.reopen.new.outside store.header fault) c.self.view_is
     (reopening_fault G old c.synced.new.outside c.reopen.new.outside header c.self.inside.banks fault c.self.invariant c.synced.ensures.asks is) in
     record {
       asks = record {

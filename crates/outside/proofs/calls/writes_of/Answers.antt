@@ -1,5 +1,0 @@
-use Rattle.outside.proofs.Common.{arith}
-use Rattle.outside.proofs.calls.writes_of.Goals as goal
-
-pub returns : goal.returns
-returns c = grind arith

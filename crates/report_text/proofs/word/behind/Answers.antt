@@ -1,4 +1,0 @@
-use Rattle.report_text.proofs.word.behind.Goals as goal
-
-pub returns-clause-parts : goal.returns-clause-parts
-returns-clause-parts c = λ word words one is. (c.split.ensures.parts word words one is).1

@@ -1,5 +1,0 @@
-use Rattle.storage_unit.proofs.EmptyKeeps.{empty-keeps}
-use Rattle.storage_unit.proofs.laws.empty_keeps.Goals as goal
-
-pub returns : goal.returns
-returns c = empty-keeps

@@ -1,5 +1,0 @@
-use Rattle.storage_unit.proofs.FailedBringKeeps.{failed-bring-keeps}
-use Rattle.storage_unit.proofs.laws.failed_bring_keeps.Goals as goal
-
-pub returns : goal.returns
-returns c = failed-bring-keeps

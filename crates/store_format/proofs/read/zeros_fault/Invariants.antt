@@ -1,5 +1,0 @@
-use Rattle.store_format.proofs.Common.{◌≡◌, ◌-◌, zeros, first_fault}
-use Rattle.store_format.proofs.read.zeros_fault.Given as goal
-
-abbrev pub invariant-loop-at : goal.invariant-loop-at
-invariant-loop-at l = first_fault l.length (zeros l.head l.at (l.to - l.at)) ≡ first_fault l.length (zeros l.head l.from (l.to - l.from))

@@ -1,8 +1,0 @@
-pub mod Below
-pub mod Session
-pub mod Shown
-pub mod ShownLaws
-pub mod Laws
-pub mod Opened
-pub mod Went
-pub mod Causes
