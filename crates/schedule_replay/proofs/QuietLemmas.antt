@@ -1,6 +1,6 @@
 -- Events without a report, one after another.
 use Rattle.schedule_replay.proofs.Common.{◌≡◌, ℕ, ◌+◌, ◌<◌, List, [], ◌∷◌, ◌++◌, length, cond, take, get_or, refl, sym, ap, ◌∙◌, subst, arith, false, not, count_by, Option, IfSome, flat_map, fold, map-append, length-map, take_more, fold-append, sum_by-append, Ghosts, IsSure, CallsDisk, FewerLater, held_of, leaves_held, Program, stands, Turn, TurnEnd, Event, Begun, begun_told, turn_told, stored_told, counts_told, Stored, standing_of, IsEitherOf, Desk, DiskWord, Doubt, ReportLine, cycle_lines, event_lines, happening_lines, Step, run, step, faulted, stage_either, stage_none, run_on, open_on, lines_on, faulted_on, Stepped, counted_quiet, step_by, RanQuietly, TallyTells, WentQuietly, is_rollback, last_by, out_after, tally_begun, tally_by, tally_stored, InDoubt, RanTo, WasStep, nat_tests, opening, opening_of, span}
-use Rattle.schedule_replay.specs.declared.quietly.Tally.{Tally}
+use Rattle.schedule_replay.specs.declared.quietly.QuietTally.{QuietTally}
 use Rattle.desk.specs.declared.supervisor.Supervisor as desk
 use Rattle.desk.specs.ReportLines as line
 use Rattle.schedule_replay.proofs.RanLemmas.{images_join, none_last}
@@ -33,7 +33,7 @@ pub turn_tells : (number activation : ℕ) (answer : Turn) (ends : TurnEnd) (pri
 turn_tells number activation answer ends printed last = grind (arith, rolled activation answer, counted_quiet activation (counts_told answer), cycles_last last (counts_told answer).cycles)
 
 -- a tally and then another
-pub tells_on : (one two both : Tally) (old mid new : List ℕ) (xs ys lines : List ReportLine) → lines ≡ xs ++ ys → both.commits ≡ one.commits + two.commits → both.rollbacks ≡ one.rollbacks + two.rollbacks → TallyTells one old mid xs → TallyTells two mid new ys → TallyTells both old new lines
+pub tells_on : (one two both : QuietTally) (old mid new : List ℕ) (xs ys lines : List ReportLine) → lines ≡ xs ++ ys → both.commits ≡ one.commits + two.commits → both.rollbacks ≡ one.rollbacks + two.rollbacks → TallyTells one old mid xs → TallyTells two mid new ys → TallyTells both old new lines
 tells_on one two both old mid new xs ys lines is commits rollbacks first second = grind (arith, nat_tests, sum_by-append, cond, fold-append)
 
 pub tells_nothing : (last : List ℕ) (lines : List ReportLine) → last ≡ [] → lines ≡ [] → TallyTells (record { commits = 0; rollbacks = 0 }) [] last lines
@@ -45,7 +45,7 @@ if_some P Q told turns is = grind (arith, turns)
 
 module _ {D W : Type 0} (S : desk.Ghosts D) (G : Ghosts W) (fewer_later : FewerLater G) (programs : List Program) (number : ℕ) where
   -- an event went quietly whose step and tally are told
-  pub went_quietly : (event one : Event) (lines : List ReportLine) (start : Desk) (new : D) (before after : W) (old_last new_last last : List ℕ) (tally told : Option Tally) → event ≡ one → new_last ≡ last → tally ≡ told
+  pub went_quietly : (event one : Event) (lines : List ReportLine) (start : Desk) (new : D) (before after : W) (old_last new_last last : List ℕ) (tally told : Option QuietTally) → event ≡ one → new_last ≡ last → tally ≡ told
       → WasStep S G (opening [] programs number start) one lines new (span before after) → IfSome told (λ each. TallyTells each old_last last lines) → WentQuietly S G (opening [] programs number start) event new (span before after) old_last new_last tally
   went_quietly event one lines start new before after old_last new_last last tally told is_one is_last is_told step tells = grind (arith, nat_tests)
 
@@ -101,7 +101,7 @@ module _ {D W : Type 0} (S : desk.Ghosts D) (G : Ghosts W) (fewer_later : FewerL
       (ran, lines)
 
   -- the next event is run from where the run is, and tallied
-  pub ran_next_quietly : (events : List Event) (i : ℕ) (event : Event) → i < length events → (start : Desk) (mid new : D) (before between after : W) (old_last new_last : List ℕ) (so_far : Tally) (tally : Option Tally) → (S.told mid).closed ≡ false → (S.told mid).fixed.programs ≡ programs → (S.told mid).fixed.opened ≡ number → CallsDisk G before between → CallsDisk G between after
+  pub ran_next_quietly : (events : List Event) (i : ℕ) (event : Event) → i < length events → (start : Desk) (mid new : D) (before between after : W) (old_last new_last : List ℕ) (so_far : QuietTally) (tally : Option QuietTally) → (S.told mid).closed ≡ false → (S.told mid).fixed.programs ≡ programs → (S.told mid).fixed.opened ≡ number → CallsDisk G before between → CallsDisk G between after
       → (one : RanQuietly S G (opening [] programs number start) (take i events) mid (span before between)) → TallyTells so_far [] old_last (event_lines [] programs number one.taken start)
       → ((desk : Desk) → IsSure G between → S.shows mid (held_of G between) desk → WentQuietly S G (opening_of [] (S.told mid).fixed desk) (get_or events i event) new (span between after) old_last new_last tally)
       → (ran : RanQuietly S G (opening [] programs number start) (take (i + 1) events) new (span before after)) × IfSome tally (λ more. TallyTells (record { commits = so_far.commits + more.commits; rollbacks = so_far.rollbacks + more.rollbacks }) [] new_last (event_lines [] programs number ran.taken start))

@@ -10,7 +10,7 @@ use Rattle.schedule_replay.specs.declared.events.Going.{Going}
 use Rattle.schedule_replay.specs.declared.events.Going.TheVariants as going
 use Rattle.schedule_replay.specs.declared.quietly.Quiet.{Quiet}
 use Rattle.schedule_replay.specs.declared.quietly.Quiet.TheVariants as quiet
-use Rattle.schedule_replay.specs.declared.quietly.Tally.{Tally}
+use Rattle.schedule_replay.specs.declared.quietly.QuietTally.{QuietTally}
 use Rattle.schedule_replay.specs.Answered.{Answered, GoesBy, GoesShut, is_closed}
 use Rattle.schedule_replay.specs.Ran.{IfInDoubt, InDoubt, WasStep}
 use Rattle.schedule_replay.specs.RanTo.{RanTo}
@@ -39,13 +39,13 @@ out_after last (line.Commit activation number steps out) = out
 out_after last _ = last
 
 -- a tally is that of lines: how many commits and how many rollbacks they tell of, and what the last commit printed, after what one before had
-pub record TallyTells (tally : Tally) (old new : List ℕ) (lines : List ReportLine) : Type 0 where
+pub record TallyTells (tally : QuietTally) (old new : List ℕ) (lines : List ReportLine) : Type 0 where
   pub commits : tally.commits ≡ count_by is_commit lines
   pub rollbacks : tally.rollbacks ≡ count_by is_rollback lines
   pub last : new ≡ fold out_after old lines
 
 -- the tally of a turn that ended so, behind the victims of so many cycles; none where the desk is closed
-abbrev pub tally_by : TurnEnd → (victims : ℕ) → Option Tally
+abbrev pub tally_by : TurnEnd → (victims : ℕ) → Option QuietTally
 tally_by end.Idle victims = Some (record { commits = 0; rollbacks = 0 })
 tally_by end.Limit victims = Some (record { commits = 0; rollbacks = victims })
 tally_by (end.Committed number steps) victims = Some (record { commits = 1; rollbacks = victims })
@@ -58,11 +58,11 @@ tally_by (end.Closed doubt number) victims = None
 tally_by end.Shut victims = None
 
 -- the tally of a begin, and that of a checkpoint
-abbrev pub tally_begun : Begun → Option Tally
+abbrev pub tally_begun : Begun → Option QuietTally
 tally_begun begun.Shut = None
 tally_begun _ = Some (record { commits = 0; rollbacks = 0 })
 
-abbrev pub tally_stored : Stored → Option Tally
+abbrev pub tally_stored : Stored → Option QuietTally
 tally_stored (stored.Number number) = Some (record { commits = 0; rollbacks = 0 })
 tally_stored _ = None
 
@@ -72,11 +72,11 @@ last_by (end.Committed number steps) printed last = printed
 last_by _ printed last = last
 
 -- one event makes few of both
-abbrev pub IsSmall : Tally → Type 0
+abbrev pub IsSmall : QuietTally → Type 0
 IsSmall tally = (tally.commits ≤ 1) × (tally.rollbacks ≤ 17)
 
 -- how it goes on by whether there is a tally
-abbrev pub going_told : Option Tally → Going
+abbrev pub going_told : Option QuietTally → Going
 going_told None = going.Closed
 going_told (Some tally) = going.On
 
@@ -86,7 +86,7 @@ going_of (quiet.Ended commits rollbacks) = going.On
 going_of quiet.Closed = going.Closed
 
 -- an event was a step of the desk, and what it came to is told, where it left the desk open
-pub record WentQuietly {D W : Type 0} (S : desk.Ghosts D) (G : Ghosts W) (opening : Opening) (event : Event) (new : D) (span : Interval W) (old_last new_last : List ℕ) (tally : Option Tally) : Type 0 where
+pub record WentQuietly {D W : Type 0} (S : desk.Ghosts D) (G : Ghosts W) (opening : Opening) (event : Event) (new : D) (span : Interval W) (old_last new_last : List ℕ) (tally : Option QuietTally) : Type 0 where
   pub lines : List ReportLine
   pub step : WasStep S G opening event lines new span
   pub tells : IfSome tally (λ tally. TallyTells tally old_last new_last lines)
@@ -132,7 +132,7 @@ module _ {D W : Type 0} (S : desk.Ghosts D) (G : Ghosts W) (old new : D) (before
     pub answered : Answered S G events old new before after unput
 
   -- what one event keeps, how it goes on, and that few were counted
-  pub record KeepsQuietly (event : Event) (tally : Option Tally) : Type 0 where
+  pub record KeepsQuietly (event : Event) (tally : Option QuietTally) : Type 0 where
     pub answered : Answered S G (event ∷ []) old new before after unput
     pub goes : GoesBy S G old new before after (going_told tally)
     pub shut : (S.told old).closed ≡ true → tally ≡ None
@@ -141,6 +141,6 @@ module _ {D W : Type 0} (S : desk.Ghosts D) (G : Ghosts W) (old new : D) (before
     pub small : IfSome tally IsSmall
 
   -- and what it did
-  pub record HasGoneQuietly (event : Event) (old_last new_last : List ℕ) (tally : Option Tally) : Type 0 where
+  pub record HasGoneQuietly (event : Event) (old_last new_last : List ℕ) (tally : Option QuietTally) : Type 0 where
     pub kept : KeepsQuietly event tally
     pub went : (start : Desk) → IsSure G before → S.shows old (held_of G before) start → WentQuietly S G (opening_of [] (S.told old).fixed start) event new (span before after) old_last new_last tally

@@ -21,13 +21,13 @@ pub enum Quiet {
 
 /// How many commits and rollbacks there were.
 #[derive(Clone, Copy)]
-struct Tally {
+struct QuietTally {
     commits: u32,
     rollbacks: u32,
 }
 
 /// Nothing was committed or rolled back.
-const NOTHING: Tally = Tally {
+const NOTHING: QuietTally = QuietTally {
     commits: 0,
     rollbacks: 0,
 };
@@ -69,7 +69,7 @@ fn answer<S: Supervisor, W: Outside>(
     event: Event,
     last: &mut LastPrinted,
     outside: &mut W,
-) -> Option<Tally>
+) -> Option<QuietTally>
     requires ready { MayBeAsked S.Supervisor W.Outside (event ∷ []) desk.old outside.old }
     requires lasting { IsLasting event }
     ensures { HasGoneQuietly S.Supervisor W.Outside desk.old desk.new outside.old outside.new
@@ -98,7 +98,7 @@ fn keep_printed<S: Supervisor>(desk: &S, end: &TurnEnd, last: &mut LastPrinted)
 }
 
 /// The tally of a begin; none where the desk is closed.
-fn tally_of_begin(begun: Begun) -> Option<Tally>
+fn tally_of_begin(begun: Begun) -> Option<QuietTally>
     ensures { result ≡ tally_begun begun }
 {
     match begun {
@@ -108,21 +108,21 @@ fn tally_of_begin(begun: Begun) -> Option<Tally>
 }
 
 /// The tally of a turn; none where the desk is closed.
-fn tally_of_turn(turn: &Turn) -> Option<Tally>
+fn tally_of_turn(turn: &Turn) -> Option<QuietTally>
     ensures { result ≡ tally_by turn.now.end (length turn.now.cycles.items) }
 {
     let victims = turn.cycles.len() as u32;
     match turn.end {
         TurnEnd::Idle => Some(NOTHING),
-        TurnEnd::Limit | TurnEnd::Waits(..) | TurnEnd::Victim => Some(Tally {
+        TurnEnd::Limit | TurnEnd::Waits(..) | TurnEnd::Victim => Some(QuietTally {
             commits: 0,
             rollbacks: victims,
         }),
-        TurnEnd::Committed(..) => Some(Tally {
+        TurnEnd::Committed(..) => Some(QuietTally {
             commits: 1,
             rollbacks: victims,
         }),
-        TurnEnd::Checked(..) | TurnEnd::Journal(..) | TurnEnd::Disk => Some(Tally {
+        TurnEnd::Checked(..) | TurnEnd::Journal(..) | TurnEnd::Disk => Some(QuietTally {
             commits: 0,
             rollbacks: victims + 1,
         }),
@@ -131,7 +131,7 @@ fn tally_of_turn(turn: &Turn) -> Option<Tally>
 }
 
 /// The tally of a checkpoint; none where the desk is closed.
-fn tally_of_checkpoint(stored: Stored) -> Option<Tally>
+fn tally_of_checkpoint(stored: Stored) -> Option<QuietTally>
     ensures { result ≡ tally_stored stored }
 {
     match stored {
