@@ -5,10 +5,12 @@ import fcntl
 import os
 import pathlib
 import shutil
+import stat
 import struct
 import subprocess
 import sys
 import tempfile
+import traceback
 
 TOP = pathlib.Path(__file__).resolve().parent.parent
 PROVED = TOP / "crates/romp801/out/romp801"
@@ -28,16 +30,24 @@ def fail(message, status=FAILED):
 
 def start(main):
     """Calls a tool's main function, and ends with what it answers. Where it is interrupted, or who reads its output has gone, it ends as such
-    programs do."""
+    programs do; an error that nobody took ends it with 3, since 1 is an answer of most tools."""
+    sys.stdout.reconfigure(errors="backslashreplace")
+    sys.stderr.reconfigure(errors="backslashreplace")
     try:
         status = main()
         sys.stdout.flush()
+    except OSError as error:
+        if isinstance(error, BrokenPipeError):
+            # (nothing is left to be put when Python ends)
+            os.dup2(os.open(os.devnull, os.O_WRONLY), sys.stdout.fileno())
+            status = 141
+        else:
+            fail(f"{error.filename or 'a file'}: {error.strerror}")
     except KeyboardInterrupt:
         status = 130
-    except BrokenPipeError:
-        # (nothing is left to be put when Python ends)
-        os.dup2(os.open(os.devnull, os.O_WRONLY), sys.stdout.fileno())
-        status = 141
+    except Exception:
+        traceback.print_exc()
+        status = FAILED
     sys.exit(status)
 
 
@@ -75,8 +85,21 @@ def program_of(options):
     return found
 
 
+def forget(path):
+    """Has memory forget what it needn't write of a store's file, so that what is read is on the medium: after a sync that failed memory may
+    have a commit that the medium lacks (docs/OPERATION.md, "A disk that fails"). The launcher does it too."""
+    with contextlib.suppress(OSError):
+        file = os.open(path, os.O_RDONLY | os.O_NONBLOCK)
+        try:
+            os.posix_fadvise(file, 0, 0, os.POSIX_FADV_DONTNEED)
+        finally:
+            os.close(file)
+
+
 def call(program, *words, given=b""):
     """Runs the program with these words on these bytes."""
+    if words[0] in ("run", "show", "ship", "follow"):
+        forget(words[1])
     return subprocess.run([program, *words], input=given, capture_output=True)
 
 
@@ -89,9 +112,38 @@ def refused(done, what):
 
 
 def number_of(program, store):
-    """The number of a store, told by the program, which syncs the file as it opens it; or None where it doesn't open."""
-    done = call(program, "run", store, given=EMPTY_JOB)
+    """The number of a store, told by the program, which syncs the file as it opens it; or None where it doesn't open. It is `ship` that
+    is asked, of a number that no store has: the right to read is enough, and the lock is shared."""
+    done = call(program, "ship", store, str(2**64 - 1))
+    if done.returncode == 12:
+        return int(done.stderr.split()[2])
     return int(done.stdout.split()[-1]) if done.returncode == 0 else None
+
+
+def why_not(store):
+    """Why a store doesn't open, as far as it can be seen."""
+    if not os.path.exists(store):
+        return "there is no such file"
+    if not os.path.isfile(store):
+        return "it is no regular file"
+    if not os.access(store, os.R_OK):
+        return "there is no right to read it"
+    try:
+        store_of(store)
+    except Fault as fault:
+        return f"at byte {fault.offset}: {fault.why}"
+    return "another process has it"
+
+
+def open_store(path):
+    """A store's file, open to read. A pipe is none: to open one would wait for who writes it."""
+    try:
+        if stat.S_ISFIFO(os.stat(path).st_mode):
+            fail(f"{path} is a pipe, and a store is a file")
+        forget(path)
+        return open(path, "rb")
+    except OSError as error:
+        fail(f"{path}: {error.strerror}")
 
 
 def read_bytes(path):
@@ -125,16 +177,15 @@ def write_whole(path, data, mode_of=None):
         os.replace(f"{path}.new", path)
         sync_folder(path)
     except OSError as error:
+        with contextlib.suppress(OSError):
+            os.remove(f"{path}.new")
         fail(f"{path}: {error.strerror}")
 
 
 @contextlib.contextmanager
 def locked(path, waits=True):
     """Holds the lock that the program takes on a store's file, so that nobody runs it meanwhile."""
-    try:
-        file = open(path, "rb")
-    except OSError as error:
-        fail(f"{path}: {error.strerror}")
+    file = open_store(path)
     with file:
         try:
             fcntl.flock(file, fcntl.LOCK_EX | (0 if waits else fcntl.LOCK_NB))
@@ -257,11 +308,8 @@ class Store:
 
 def store_of(path):
     """The store in a file; raises Fault where its bytes are none. No lock is taken, and nothing is written."""
-    try:
-        with open(path, "rb") as file:
-            return Store(file.read(STORE_BYTES))
-    except OSError as error:
-        fail(f"{path}: {error.strerror}")
+    with open_store(path) as file:
+        return Store(file.read(STORE_BYTES))
 
 
 def sound_store(path):
