@@ -2,10 +2,20 @@
 """Draws a report as a picture: `examples/picture.py [REPORT] >PICTURE.svg`; without a word it reads standard input.
 
 From left to right are the report's lines, eighty columns in a band, and the next band is below. A lane belongs to an activation, from its
-begin to its end; a lane that is free is used again. A legend stands at the end. Where a line is none of a report, it ends with 1 and says which.
+begin to its end; a lane that is free is used again. A legend stands at the end. Where a line is none of a report, it ends with 1 and says which;
+a file that can't be read ends it with 3.
 """
+import os
 import sys
 from xml.sax.saxutils import escape
+
+sys.dont_write_bytecode = True
+sys.path.insert(0, os.path.join(os.path.dirname(os.path.dirname(os.path.realpath(__file__))), "python"))
+try:
+    from romp801 import Failure, NO, files, report as reports, tool
+except (ImportError, OSError) as failure:
+    print(f"{os.path.basename(__file__)}: the package romp801 can't be read: {failure}", file=sys.stderr)
+    sys.exit(3)
 
 LEFT = 110
 COLUMN = 44
@@ -16,8 +26,7 @@ FREE_AFTER = 3                   # columns from an activation's end to the next 
 LEGEND = 26
 GREY, BLUE, GREEN, RED, ORANGE = "#888", "#36c", "#283", "#c22", "#b60"
 ARROWS = {ORANGE: "wait", RED: "cycle"}
-REFUSED = ("busy", "nosegment")
-ENDS = ("victim", "commit", "check", "journal", "disk", "doubt", "lost", "left")
+STATUSES = "0 the picture is printed; 1 a line is none of a report, or there is none; 2 wrong use; 3 the file can't be read."
 
 
 class Lane:
@@ -60,7 +69,7 @@ class Report:
         self.free[row] = None
         self.lanes[words[1]] = Lane(words[1], words[2], row, column)
         self.put("begin", words[1])
-        if words[0] in REFUSED:
+        if words[0] in reports.REFUSED:
             self.over(words[1], words[0], RED)
 
     def turn(self, number, rows):
@@ -87,7 +96,7 @@ class Report:
     def take(self, words):
         """Takes one line of the report; raises an error where it is none."""
         kind = words[0]
-        if kind in ("begin", *REFUSED):
+        if kind in ("begin", *reports.REFUSED):
             self.begin(words)
         elif kind == "turn":
             self.turn(words[1], words[3])
@@ -100,7 +109,7 @@ class Report:
                 self.put("arrow", self.lanes[waiting].number, self.lanes[other].number, RED)
         elif kind == "stored":
             self.across(f"checkpoint {int(words[1])}", GREEN)
-        elif kind in ENDS:
+        elif kind in reports.ENDS:
             if kind == "lost" and not self.crashed:
                 self.across("crash", RED)
                 self.crashed = True
@@ -114,8 +123,6 @@ class Report:
             self.across("closed", RED)
         elif kind in ("idle", "end"):
             int(words[1])
-        else:
-            raise ValueError(kind)
         self.crashed = kind == "lost"
 
 
@@ -239,33 +246,21 @@ def written(report):
     return "\n".join([*lines, *signs, "</svg>", ""])
 
 
-def read(lines):
-    """The report of these lines; ends with 1 where one is none."""
-    report = Report()
-    for place, line in enumerate(lines, 1):
-        try:
-            report.take(line.split())
-        except (ValueError, KeyError, IndexError):
-            sys.exit(f"picture.py: line {place} is no line of a report: {line[:60]}")
-    return report
-
-
 def main():
-    if sys.argv[1:] in (["--help"], ["-h"]) or len(sys.argv) > 2:
-        print(__doc__.strip(), file=sys.stdout if len(sys.argv) == 2 else sys.stderr)
-        sys.exit(0 if len(sys.argv) == 2 else 2)
+    def add(parser):
+        parser.add_argument("report", metavar="REPORT", nargs="?", default="-", help="a report; standard input where it is - or absent")
+
+    options = tool.arguments(__doc__, STATUSES, add)
+    text = tool.standard_input() if options.report == "-" else files.read_bytes(options.report)
+    if not text:
+        raise Failure("there are no lines", NO)
+    found = Report()
     try:
-        if len(sys.argv) > 1:
-            with open(sys.argv[1], encoding="latin-1") as file:
-                lines = file.read().splitlines()
-        else:
-            lines = sys.stdin.read().splitlines()
-    except OSError as error:
-        sys.exit(f"picture.py: {sys.argv[1]}: {error.strerror}")
-    if not lines:
-        sys.exit("picture.py: there are no lines")
-    sys.stdout.write(written(read(lines)))
+        reports.read(text.decode("latin-1"), found.take)
+    except reports.NoReport as none:
+        raise Failure(f"{none}: {none.line[:60]}", NO) from none
+    sys.stdout.write(written(found))
+    return 0
 
 
-if __name__ == "__main__":
-    main()
+tool.start(main)

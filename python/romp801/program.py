@@ -1,0 +1,157 @@
+"""The program: where it is, and the one way in which it is called (docs/FORMATS.md, "Words" and "Statuses")."""
+from __future__ import annotations
+
+import os
+import pathlib
+import shutil
+import subprocess
+import sys
+from typing import Iterable, NamedTuple, Optional
+
+from romp801 import files, words
+from romp801.errors import WRONG_USE, Failure
+from romp801.format import Fault
+
+TOP = pathlib.Path(__file__).resolve().parent.parent.parent
+PROVED = TOP / "crates/romp801/out/romp801"
+UNPROVED = TOP / "out/unproved/romp801"
+OF_A_STORE = ("run", "show", "ship", "follow")
+LOOKS = ("show", "ship")
+BUSY = 5
+JOB, NOT_KEPT = 3, 12
+
+
+class Replay(NamedTuple):
+    """The report of a job that was run again, and the number that its store has behind the last line of it, or None."""
+
+    report: bytes
+    number: Optional[int]
+
+
+class Program:
+    """The program, by its absolute name."""
+
+    def __init__(self, path: str) -> None:
+        self.path = path
+
+    @classmethod
+    def find(cls, named: Optional[str] = None) -> Program:
+        """The one that is named, else that of the variable ROMP801, else the one that was built in this repository, proved or else unproved,
+        else romp801 on PATH. Raises Failure where there is none."""
+        named = named or os.environ.get("ROMP801")
+        if named:
+            if not os.access(named, os.X_OK) or not os.path.isfile(named):
+                raise Failure(f"there is no program {named}", WRONG_USE)
+            return cls(os.path.abspath(named))
+        if os.access(PROVED, os.X_OK):
+            return cls(str(PROVED))
+        if os.access(UNPROVED, os.X_OK):
+            if sys.stderr is not None and sys.stderr.isatty():
+                print("the program is unproved", file=sys.stderr)
+            return cls(str(UNPROVED))
+        found = shutil.which("romp801")
+        if not found:
+            raise Failure("the program isn't built: ./romp801 --build proves and builds it, ./romp801 --unproved try builds one without a proof")
+        return cls(os.path.abspath(found))
+
+    def start(self, *line: str, given: bytes = b"", keeps: Iterable[int] = ()) -> subprocess.Popen[bytes]:
+        """Starts the program with these words on these bytes; its output and errors are pipes. Of a store memory forgets the clean pages
+        first, so that the program opens what the medium holds. `keeps` are open files that it has too."""
+        for word in line:
+            try:
+                os.fsencode(word).decode("utf-8")
+            except UnicodeDecodeError as error:
+                raise Failure(f"the program takes names in UTF-8 alone, and {os.fsencode(word)!r} isn't", WRONG_USE) from error
+        if line[0] in OF_A_STORE:
+            files.forget_store(line[1])
+        with files.in_memory(given) as text:
+            return subprocess.Popen([self.path, *line], stdin=text, stdout=subprocess.PIPE, stderr=subprocess.PIPE, pass_fds=tuple(keeps))
+
+    def call(self, *line: str, given: bytes = b"", seconds: Optional[float] = 0.0) -> subprocess.CompletedProcess[bytes]:
+        """Calls the program with these words on these bytes. Where another process has the store it is waited for, `seconds` long."""
+        wait = files.Wait(seconds)
+        while True:
+            with self.start(*line, given=given) as child:
+                output, errors = child.communicate()
+            if child.returncode != BUSY or output or line[0] not in OF_A_STORE or not files.is_held(line[1], line[0] not in LOOKS) or not wait.goes_on():
+                return subprocess.CompletedProcess(child.args, child.returncode, output, errors)
+
+    def number(self, store: str, seconds: Optional[float] = 0.0) -> int:
+        """The number of a store, told by the program, which syncs the file as it opens it; raises Failure where it doesn't open. It is
+        `ship` that is asked, of a number that no store has: the right to read is enough, and the lock is shared."""
+        done = self.call("ship", store, str(2**64 - 1), seconds=seconds)
+        if done.returncode == NOT_KEPT:
+            return int(done.stderr.split()[2])
+        if done.returncode == 0:
+            return int(done.stdout.split()[-1])
+        raise Failure(f"{store} doesn't open: {why_not(store, done)}")
+
+    def replay(self, job: bytes, opening: bytes, number: int, least: int = 0, to_next: bool = False) -> Replay:
+        """The report that a job has on a copy of a store: a job on a store has one report, whenever it is run. It goes up to the commit with
+        this number and to its first `least` bytes at least; with `to_next` up to the commit after that, which isn't in it. The copy lies in
+        memory."""
+        report, reached = b"", None
+        with files.in_memory(opening) as store, self.start("run", f"/proc/self/fd/{store}", given=job, keeps=[store]) as child:
+            assert child.stdout is not None
+            for line in child.stdout:
+                parts = line.split()
+                if to_next and parts[0] == b"commit" and reached == number:
+                    break
+                if parts[0] == b"commit":
+                    reached = int(parts[3])
+                elif parts[0] == b"open" and reached is None:
+                    reached = int(parts[1])
+                report += line
+                if not to_next and reached == number and len(report) >= least:
+                    break
+            child.kill()
+        return Replay(report, reached)
+
+
+def refused(done: subprocess.CompletedProcess[bytes], what: str, store: Optional[str] = None) -> subprocess.CompletedProcess[bytes]:
+    """Raises Failure where the program didn't end with Done, with its status in words."""
+    if done.returncode:
+        raise Failure(f"{what}: {ended(done.returncode, done.stderr, store)}")
+    return done
+
+
+def ended(status: int, errors: bytes, store: Optional[str] = None) -> str:
+    """How the program ended, in words."""
+    said = errors.decode(errors="replace").strip()
+    why = words.status(status)
+    if status == BUSY and store is not None and files.is_held(store):
+        why = "another process has it"
+    return f"the program ended with {status}{', ' + said if said else ''} ({why})"
+
+
+def why_not(store: str, done: subprocess.CompletedProcess[bytes]) -> str:
+    """Why a store doesn't open, as far as it can be seen: the one cause."""
+    if done.returncode not in (2, BUSY):
+        return ended(done.returncode, done.stderr)
+    if not os.path.exists(store):
+        return "there is no such file"
+    if not os.path.isfile(store):
+        return "it is no regular file"
+    if not os.access(store, os.R_OK):
+        return "there is no right to read it"
+    if done.returncode == BUSY and files.is_held(store, alone=False):
+        return "another process has it"
+    try:
+        files.read_store(store)
+    except Fault as fault:
+        return f"it is no store, or a damaged one, at byte {fault.offset}: {fault.why}"
+    return ended(done.returncode, done.stderr)
+
+
+def refused_job(done: subprocess.CompletedProcess[bytes]) -> Optional[tuple[int, int]]:
+    """The line and the kind of a refused job, or None where the program ended otherwise."""
+    if done.returncode != JOB:
+        return None
+    line, kind = done.stderr.split()[1:3]
+    return int(line), int(kind)
+
+
+def bundle(job: bytes, report: bytes, opening: bytes, closing: bytes) -> bytes:
+    """A bundle for the words audit and trace, of the bytes of its parts (docs/FORMATS.md, "Bundle")."""
+    lengths = " ".join(str(len(part)) for part in (job, report, opening, closing))
+    return f"audit {lengths}\n".encode() + job + report + opening + closing

@@ -1,0 +1,157 @@
+"""How a script begins and ends: its words, its streams and its status, which is never that of an answer where it failed."""
+from __future__ import annotations
+
+import argparse
+import contextlib
+import os
+import pathlib
+import sys
+import textwrap
+import traceback
+from typing import Callable, NoReturn, Optional
+
+from romp801.errors import FAILED, Failure, WRONG_USE, named
+
+WIDTH = 80
+INTERRUPTED, NO_READER = 130, 141
+
+
+def name() -> str:
+    """The script's name."""
+    return pathlib.Path(sys.argv[0]).name
+
+
+def say(message: str) -> None:
+    """A line on standard error, if somebody reads it."""
+    with contextlib.suppress(OSError, AttributeError):
+        print(f"{name()}: {message}", file=sys.stderr, flush=True)
+
+
+def _open_streams() -> None:
+    """Sees that no file that is opened later takes the place of a standard stream that is closed, and that each letter can be put."""
+    for number in range(3):
+        try:
+            os.fstat(number)
+        except OSError:
+            os.open(os.devnull, os.O_RDONLY if number < 2 else os.O_WRONLY)
+    if sys.stdout is None:
+        sys.stdout = open(1, "w", encoding="utf-8", closefd=False)
+    if sys.stderr is None:
+        sys.stderr = open(2, "w", encoding="utf-8", closefd=False)
+    for stream in (sys.stdout, sys.stderr):
+        stream.reconfigure(errors="backslashreplace")  # type: ignore[attr-defined]
+
+
+def _status_of(main: Callable[[], int]) -> int:
+    """What the main function answers, or the status of what ended it."""
+    try:
+        status = main()
+        sys.stdout.flush()
+        return status
+    except Failure as failure:
+        say(str(failure))
+        return failure.status
+    except BrokenPipeError:
+        return NO_READER
+    except OSError as error:
+        say(str(named(error)))
+    except KeyboardInterrupt:
+        return INTERRUPTED
+    except MemoryError:
+        say("there was no memory")
+    except Exception as error:
+        place = traceback.extract_tb(error.__traceback__)[-1]
+        say(f"a mistake in the script: {type(error).__name__}: {error} (line {place.lineno} of {place.filename})")
+    return FAILED
+
+
+def start(main: Callable[[], int]) -> NoReturn:
+    """Calls a script's main function, and ends with what it answers. Where it is interrupted (130), or who reads its output has gone (141), it
+    ends as such programs do; what nobody took ends it with 3, with words. Nothing that can't be put changes the status at the end."""
+    _open_streams()
+    status = _status_of(main)
+    for stream in (sys.stdout, sys.stderr):
+        with contextlib.suppress(OSError, ValueError):
+            stream.flush()
+    os._exit(status)
+
+
+class _Form(argparse.RawDescriptionHelpFormatter):
+    """Help within WIDTH columns."""
+
+    def __init__(self, prog: str) -> None:
+        super().__init__(prog, width=WIDTH, max_help_position=20)
+
+
+class _Words(argparse.ArgumentParser):
+    """Words of the command line; where they are mistaken the script says so and ends as any other."""
+
+    def error(self, message: str) -> NoReturn:
+        """The form, and what is mistaken."""
+        self.print_usage(sys.stderr)
+        raise Failure(message, WRONG_USE)
+
+    def exit(self, status: int = 0, message: Optional[str] = None) -> NoReturn:
+        """The end of --help."""
+        raise _Over(status)
+
+
+class _Over(Exception):
+    """The words asked for nothing more."""
+
+
+def _folded(text: str) -> str:
+    """A text within WIDTH columns: its paragraphs filled, and lines that are set in as they are."""
+    parts = (it if it.startswith(" ") else textwrap.fill(it, WIDTH) for it in text.strip().split("\n\n"))
+    return "\n\n".join(parts)
+
+
+def _named(line: list[str]) -> list[str]:
+    """The words without `--`, behind which a word that begins with `-` is a file of this folder, and not an option."""
+    if "--" not in line:
+        return line
+    at = line.index("--")
+    return line[:at] + [f"./{it}" if it.startswith("-") else it for it in line[at + 1:]]
+
+
+def arguments(description: Optional[str], statuses: str, add: Callable[[argparse.ArgumentParser], object]) -> argparse.Namespace:
+    """The words of the command line. `add` takes the parser and adds what the script wants; `statuses` says what it ends with."""
+    folder = pathlib.Path(sys.argv[0]).resolve().parent.name
+    parser = _Words(prog=f"{folder}/{name()}", description=_folded(description or ""), formatter_class=_Form, allow_abbrev=False,
+                    epilog=_folded(f"Exit status: {statuses}"))
+    add(parser)
+    try:
+        return parser.parse_args(_named(sys.argv[1:]))
+    except _Over:
+        sys.stdout.flush()
+        os._exit(0)
+
+
+def add_program(parser: argparse.ArgumentParser) -> None:
+    """The option --program."""
+    parser.add_argument("--program", metavar="FILE", help="the program to call; else that of the variable ROMP801, else the one that was "
+                        "built here, proved or else unproved, else romp801 on PATH")
+
+
+def seconds(text: str) -> float:
+    """A number of seconds."""
+    found = float(text)
+    if not 0 <= found < float("inf"):
+        raise ValueError(text)
+    return found
+
+
+def add_wait(parser: argparse.ArgumentParser, default: Optional[float] = 0.0) -> None:
+    """The option --wait."""
+    usual = "for ever" if default is None else f"{default:g}"
+    parser.add_argument("--wait", metavar="SECONDS", type=seconds, default=default,
+                        help=f"wait so long for a store that another process has, such as 0.5; usually {usual}")
+
+
+def standard_input() -> bytes:
+    """All of standard input."""
+    try:
+        with open(0, "rb", closefd=False) as stream:
+            return stream.read()
+    except OSError as error:
+        raise named(error, "standard input") from error
