@@ -4,7 +4,8 @@ It is a text of records, each a line `LENGTH SUM JSON`: how many bytes the JSON 
 piece of a record, as a kill or a full disk leaves it at the end, is a piece and never another record, and it is cut off before the next
 is put. A record is synced before what it says is acted on. In this order there are
 
-    {"list": SUM, "count": N}                            once, the first: the sum of the list's text, and how many transactions it has
+    {"list": SUM, "count": N, "number": N}               once, the first: the sum of the list's text, how many transactions it has, and the store's
+                                                         number when it was begun
     {"job": SUM, "opening": SUM, "number": N, "lines": [..]}   a job is about to be run: its sum, that of the store before it and the store's
                                                          number then, and the list's lines of its activations, in order
     {"over": [[LINE, HOW], ..], "number": N, "due": B}   the job is over: how these ended, the store's number then, and whether a command is due
@@ -49,24 +50,26 @@ def framed(record: dict[str, Any], before: str) -> tuple[bytes, str]:
 
 class Progress:
     """The file's content. `ended` tells of each line how it ended; `job` is the one that isn't over, `number` the store's number when the
-    last one was over, `due` whether a command is to be run."""
+    last one was over or the list was begun, `due` whether a command is to be run."""
 
     def __init__(self, path: str) -> None:
         self.path = path
         self.list, self.count = "", 0
         self.ended: dict[int, str] = {}
         self.job: Optional[Job] = None
-        self.number: Optional[int] = None
+        self.number = 0
         self.due = False
         self.length, self.last = 0, ""
 
     @classmethod
-    def begin(cls, path: str, list_sum: str, count: int) -> Progress:
+    def begin(cls, path: str, list_sum: str, count: int, number: int) -> Progress:
         """Puts the file of a list of which nothing is done yet in the place of what stands there."""
         made = cls(path)
-        text, made.last = framed({"list": list_sum, "count": count}, "")
+        record = {"list": list_sum, "count": count, "number": number}
+        text, made.last = framed(record, "")
         files.write_whole(path, text)
-        made.list, made.count, made.length = list_sum, count, len(text)
+        made._apply(record)
+        made.length = len(text)
         return made
 
     @classmethod
@@ -112,7 +115,7 @@ class Progress:
     def _apply(self, record: dict[str, Any]) -> None:
         """Does what a record says."""
         if "list" in record:
-            self.list, self.count = record["list"], record["count"]
+            self.list, self.count, self.number = record["list"], record["count"], record["number"]
         elif "job" in record:
             self.job = Job(record["job"], record["opening"], record["number"], record["lines"])
         elif "over" in record:

@@ -33,7 +33,7 @@ class Cuts(unittest.TestCase):
 
     def whole(self) -> list[tuple[int, tuple[object, ...]]]:
         """A list with two jobs and a command; answers each state, and from which length of the file on it holds."""
-        made = Progress.begin(self.path, sum_of(b"list"), 4)
+        made = Progress.begin(self.path, sum_of(b"list"), 4, 7)
         states = [(made.length, state(made))]
         calls: list[Callable[[], None]] = [
             lambda: made.begin_job(JOB), lambda: made.end_job([(1, "commit 8 out -"), (33, "check 8 at 00000024")], 8, True), made.end_after,
@@ -116,10 +116,10 @@ class Cuts(unittest.TestCase):
     def test_a_new_list(self) -> None:
         """A new list's file has nothing of the old one."""
         self.whole()
-        Progress.begin(self.path, sum_of(b"other"), 1)
+        Progress.begin(self.path, sum_of(b"other"), 1, 9)
         found = Progress.read(self.path)
         assert found is not None
-        self.assertEqual(state(found), (sum_of(b"other"), 1, {}, None, None, False))
+        self.assertEqual(state(found), (sum_of(b"other"), 1, {}, None, 9, False))
 
 
 if __name__ == "__main__":
