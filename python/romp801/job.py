@@ -19,6 +19,11 @@ def words_of(line: str) -> list[str]:
     return [it for it in re.split(f"[{BLANKS}]+", line.split(";")[0]) if it]
 
 
+def shown(text: str) -> str:
+    """A text that was read as Latin 1, as it is put: in UTF-8 where it is some."""
+    return text.encode("latin-1").decode("utf-8", "backslashreplace")
+
+
 def tokens_of(line: str) -> list[str]:
     """The tokens of a line of a program, without its comment."""
     return TOKEN.findall(line.split(";")[0])
