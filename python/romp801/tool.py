@@ -12,6 +12,8 @@ from typing import Callable, NoReturn, Optional
 
 from romp801.errors import FAILED, Failure, WRONG_USE, named
 
+Parser = argparse.ArgumentParser
+Options = argparse.Namespace
 WIDTH = 80
 INTERRUPTED, NO_READER = 130, 141
 
