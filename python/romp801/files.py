@@ -26,6 +26,7 @@ class Wait:
 
     def __init__(self, seconds: Optional[float]) -> None:
         self.until = None if seconds is None else time.monotonic() + seconds
+        self.tried = False
 
     def goes_on(self) -> bool:
         """Sleeps for a moment; False where the time is over."""
@@ -33,6 +34,13 @@ class Wait:
         if left > 0:
             time.sleep(min(0.05, left))
         return left > 0
+
+    def for_store(self, path: str, alone: bool = True) -> bool:
+        """Whether a store that was refused is to be tried again: while another process has it, and once where it has it no more."""
+        if is_held(path, alone):
+            return self.goes_on()
+        first, self.tried = not self.tried, True
+        return first
 
 
 def open_store(path: str) -> BinaryIO:
@@ -180,14 +188,28 @@ def hold_list(path: str) -> int:
 def hold_folder(path: str) -> int:
     """Makes a folder where there is none and takes it; answers the open folder, which keeps it until the process ends."""
     try:
-        os.makedirs(path, exist_ok=True)
+        make_folder(path)
         folder = os.open(path, os.O_RDONLY | os.O_DIRECTORY | os.O_CLOEXEC)
         fcntl.flock(folder, fcntl.LOCK_EX | fcntl.LOCK_NB)
+        os.fsync(folder)
         return folder
     except BlockingIOError as error:
         raise Failure(f"another call works with the folder {path}") from error
     except OSError as error:
         raise named(error, path) from error
+
+
+def make_folder(path: str) -> None:
+    """Makes a folder where there is none, with those that it is in, and syncs their names."""
+    path = os.path.abspath(path)
+    missing = []
+    while not os.path.isdir(path) and path not in missing:
+        missing.append(path)
+        path = os.path.dirname(path)
+    for name in reversed(missing):
+        with contextlib.suppress(FileExistsError):
+            os.mkdir(name)
+        sync_folder(name)
 
 
 def sync_folder(path: str) -> None:

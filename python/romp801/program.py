@@ -47,7 +47,7 @@ class Program:
             return cls(str(PROVED))
         if os.access(UNPROVED, os.X_OK):
             if sys.stderr is not None and sys.stderr.isatty():
-                print("the program is unproved", file=sys.stderr)
+                print(f"{os.path.basename(sys.argv[0])}: the program is unproved", file=sys.stderr)
             return cls(str(UNPROVED))
         found = shutil.which("romp801")
         if not found:
@@ -73,7 +73,7 @@ class Program:
         while True:
             with self.start(*line, given=given) as child:
                 output, errors = child.communicate()
-            if child.returncode != BUSY or output or line[0] not in OF_A_STORE or not files.is_held(line[1], line[0] not in LOOKS) or not wait.goes_on():
+            if child.returncode != BUSY or output or line[0] not in OF_A_STORE or not wait.for_store(line[1], line[0] not in LOOKS):
                 return subprocess.CompletedProcess(child.args, child.returncode, output, errors)
 
     def number(self, store: str, seconds: Optional[float] = 0.0) -> int:
