@@ -5,8 +5,11 @@ From left to right are the report's lines, eighty columns in a band, and the nex
 begin to its end; a lane that is free is used again. A legend stands at the end. Where a line is none of a report, it ends with 1 and says which;
 a file that can't be read ends it with 3.
 """
+from __future__ import annotations
+
 import os
 import sys
+from typing import Any, Callable, Optional
 from xml.sax.saxutils import escape
 
 sys.dont_write_bytecode = True
@@ -32,35 +35,36 @@ STATUSES = "0 the picture is printed; 1 a line is none of a report, or there is 
 class Lane:
     """One activation: its name, its row, the columns of its begin and its end, and those from which it waits and from which it doesn't."""
 
-    def __init__(self, number, name, row, column):
+    def __init__(self, number: str, name: str, row: int, column: int) -> None:
         self.number, self.name, self.row = number, name, row
-        self.begin, self.end = column, None
-        self.waits = []
+        self.begin = column
+        self.end: Optional[int] = None
+        self.waits: list[list[Optional[int]]] = []
 
-    def is_waiting(self, column):
+    def is_waiting(self, column: int) -> bool:
         """Whether it waits in front of this column."""
-        return any(start < column <= (stop if stop is not None else column) for start, stop in self.waits)
+        return any(start is not None and start < column <= (stop if stop is not None else column) for start, stop in self.waits)
 
 
 class Report:
     """What is in each column, and the lanes."""
 
-    def __init__(self):
-        self.columns = []
-        self.lanes = {}
-        self.free = []               # for each row, the column from which it is free, or None
+    def __init__(self) -> None:
+        self.columns: list[list[tuple[Any, ...]]] = []
+        self.lanes: dict[str, Lane] = {}
+        self.free: list[Optional[int]] = []               # for each row, the column from which it is free, or None
         self.crashed = False
 
-    def new_column(self):
+    def new_column(self) -> int:
         """Begins a column, and answers its number."""
         self.columns.append([])
         return len(self.columns) - 1
 
-    def put(self, *item):
+    def put(self, *item: str) -> None:
         """Puts something into the last column."""
         self.columns[-1].append(item)
 
-    def begin(self, words):
+    def begin(self, words: list[str]) -> None:
         """A line that begins an activation, or refuses it: it takes the first row that is free."""
         column = self.new_column()
         row = next((row for row, free in enumerate(self.free) if free is not None and free <= column), len(self.free))
@@ -72,7 +76,7 @@ class Report:
         if words[0] in reports.REFUSED:
             self.over(words[1], words[0], RED)
 
-    def turn(self, number, rows):
+    def turn(self, number: str, rows: str) -> None:
         """A turn: whoever waited doesn't from here on."""
         column = self.new_column()
         lane = self.lanes[number]
@@ -80,20 +84,20 @@ class Report:
             lane.waits[-1][1] = column
         self.put("turn", number, rows)
 
-    def over(self, number, words, color):
+    def over(self, number: str, words: str, color: str) -> None:
         """An activation ends in the last column."""
         lane = self.lanes[number]
         lane.end = len(self.columns) - 1
         self.free[lane.row] = lane.end + FREE_AFTER
         self.put("end", number, words, color)
 
-    def across(self, words, color):
+    def across(self, words: str, color: str) -> None:
         """A line across all lanes, in a column of its own."""
         self.new_column()
         self.put("across", words, color)
         self.new_column()
 
-    def take(self, words):
+    def take(self, words: list[str]) -> None:
         """Takes one line of the report; raises an error where it is none."""
         kind = words[0]
         if kind in ("begin", *reports.REFUSED):
@@ -129,9 +133,11 @@ class Report:
 class Band:
     """The columns from one to another, drawn at a height: what lies below, the shapes, and words on top of all."""
 
-    def __init__(self, report, first, last, top):
+    def __init__(self, report: Report, first: int, last: int, top: int) -> None:
         self.report, self.first, self.last, self.top = report, first, last, top
-        self.below, self.shapes, self.words = [], [], []
+        self.below: list[str] = []
+        self.shapes: list[str] = []
+        self.words: list[str] = []
         rows = [lane.row for lane in report.lanes.values() if lane.begin < last and (lane.end is None or lane.end >= first)]
         self.height = TOP + LANE * (max(rows, default=0) + 1)
         for lane in report.lanes.values():
@@ -140,20 +146,20 @@ class Band:
             for item in report.columns[column]:
                 getattr(self, item[0])(self.x(column), *item[1:])
 
-    def x(self, column):
+    def x(self, column: int) -> int:
         """Where a column stands."""
         return LEFT + COLUMN * (column - self.first + 1)
 
-    def y(self, number):
+    def y(self, number: str) -> int:
         """The height of an activation's lane."""
         return self.top + TOP + LANE * self.report.lanes[number].row + LANE // 2
 
-    def text(self, x, y, words, color="#222", anchor="middle"):
+    def text(self, x: int, y: int, words: str, color: str = "#222", anchor: str = "middle") -> None:
         """Words with a white edge, so that they can be read on lines."""
         self.words.append(f'<text x="{x}" y="{y}" fill="{color}" text-anchor="{anchor}" stroke="#fff" stroke-width="3" '
                           f'paint-order="stroke">{escape(words)}</text>')
 
-    def draw_lane(self, lane):
+    def draw_lane(self, lane: Lane) -> None:
         """The lane's line in this band: dashed where the activation waits."""
         end = len(self.report.columns) if lane.end is None else lane.end
         if lane.begin >= self.last or end < self.first:
@@ -165,19 +171,19 @@ class Band:
             x, y = self.x(column), self.y(lane.number)
             self.below.append(f'<line x1="{x - COLUMN}" y1="{y}" x2="{x}" y2="{y}" stroke="{GREY}" stroke-width="2"{dashes}/>')
 
-    def begin(self, x, number):
+    def begin(self, x: int, number: str) -> None:
         """A bar and the name."""
         y, lane = self.y(number), self.report.lanes[number]
         self.shapes.append(f'<line x1="{x}" y1="{y - 8}" x2="{x}" y2="{y + 8}" stroke="{GREY}" stroke-width="3"/>')
         self.text(x - 2, y - 13, f"{number} {lane.name}", anchor="start")
 
-    def turn(self, x, number, rows):
+    def turn(self, x: int, number: str, rows: str) -> None:
         """A box with the rows."""
         y = self.y(number)
         self.shapes.append(f'<rect x="{x - 12}" y="{y - 10}" width="24" height="20" rx="3" fill="#fff" stroke="{BLUE}" stroke-width="2"/>')
         self.shapes.append(f'<text x="{x}" y="{y + 4}" fill="{BLUE}" text-anchor="middle">{escape(rows)}</text>')
 
-    def arrow(self, x, start, end, color):
+    def arrow(self, x: int, start: str, end: str, color: str) -> None:
         """From one that waits to the other; those of a cycle are bent."""
         y, to = self.y(start), self.y(end)
         shift = 6 if to > y else -6
@@ -185,35 +191,37 @@ class Band:
         self.shapes.append(f'<path d="M{x} {y + shift} Q{bend} {(y + to) // 2} {x} {to - shift}" '
                            f'fill="none" stroke="{color}" stroke-width="2" marker-end="url(#{ARROWS[color]})"/>')
 
-    def end(self, x, number, words, color):
+    def end(self, x: int, number: str, words: str, color: str) -> None:
         """A dot or a cross, and words beside it."""
         self.shapes.append(ending(x + 18, self.y(number), color))
         self.text(x + 28, self.y(number) + 4, words, color, "start")
 
-    def across(self, x, words, color):
+    def across(self, x: int, words: str, color: str) -> None:
         """A line over all lanes of the band."""
         self.below.append(f'<line x1="{x}" y1="{self.top + TOP - 8}" x2="{x}" y2="{self.top + self.height - 4}" stroke="{color}" stroke-width="2"/>')
         self.text(x, self.top + TOP - 12, words, color)
 
 
-def ending(x, y, color):
+def ending(x: int, y: int, color: str) -> str:
     """A dot for a commit, and a cross for another end."""
     if color == GREEN:
         return f'<circle cx="{x}" cy="{y}" r="6" fill="{color}"/>'
     return f'<path d="M{x - 5} {y - 5} l10 10 m0 -10 l-10 10" stroke="{color}" stroke-width="3"/>'
 
 
-def legend(width, top):
+def legend(width: int, top: int) -> tuple[list[str], int]:
     """What the signs mean, in as many lines as the width wants; and how high it is."""
     arrow = '<path d="M{x} {y} L{z} {y}" stroke="{color}" stroke-width="2" marker-end="url(#{name})"/>'
     box = '<rect x="{x}" y="{up}" width="24" height="20" rx="3" fill="#fff" stroke="' + BLUE + '" stroke-width="2"/>'
-    signs = [("a turn, with its rows", lambda x, y: box.format(x=x, up=y - 10)),
+    signs: list[tuple[str, Callable[[int, int], str]]] = [
+             ("a turn, with its rows", lambda x, y: box.format(x=x, up=y - 10)),
              ("it waits for that one", lambda x, y: arrow.format(x=x, y=y, z=x + 24, color=ORANGE, name="wait")),
              ("a cycle of waits", lambda x, y: arrow.format(x=x, y=y, z=x + 24, color=RED, name="cycle")),
              ("a commit, with its number", lambda x, y: ending(x + 12, y, GREEN)),
              ("an end without one", lambda x, y: ending(x + 12, y, RED)),
              ("waiting", lambda x, y: f'<line x1="{x}" y1="{y}" x2="{x + 24}" y2="{y}" stroke="{GREY}" stroke-width="2" stroke-dasharray="4 4"/>')]
-    shapes, x, y = [], 8, top + LEGEND // 2
+    shapes: list[str] = []
+    x, y = 8, top + LEGEND // 2
     for words, sign in signs:
         long = 40 + 7 * len(words)
         if x > 8 and x + long > width:
@@ -223,13 +231,13 @@ def legend(width, top):
     return shapes, y + LEGEND // 2 - top
 
 
-def marker(color):
+def marker(color: str) -> str:
     """An arrow's head."""
     return (f'<marker id="{ARROWS[color]}" viewBox="0 0 10 10" refX="9" refY="5" markerWidth="5" markerHeight="5" '
             f'orient="auto"><path d="M0 0 L10 5 L0 10 z" fill="{color}"/></marker>')
 
 
-def written(report):
+def written(report: Report) -> str:
     """The picture's text."""
     width = LEFT + COLUMN * (min(BAND, max(len(report.columns), 8)) + 3)
     top, bands = 0, []
@@ -246,8 +254,8 @@ def written(report):
     return "\n".join([*lines, *signs, "</svg>", ""])
 
 
-def main():
-    def add(parser):
+def main() -> int:
+    def add(parser: tool.Parser) -> None:
         parser.add_argument("report", metavar="REPORT", nargs="?", default="-", help="a report; standard input where it is - or absent")
 
     options = tool.arguments(__doc__, STATUSES, add)
