@@ -1,9 +1,9 @@
 #!/usr/bin/env python3
 """Draws a report as a picture: `examples/picture.py [REPORT] >PICTURE.svg`; without a word it reads standard input.
 
-From left to right are the report's lines, eighty columns in a band, and the next band is below. A lane belongs to an activation, from its
-begin to its end; a lane that is free is used again. A legend stands at the end. Where a line is none of a report, it ends with 1 and says which;
-a file that can't be read ends it with 3.
+From left to right are the report's lines, eighty columns in a band, and the next band is below. A lane belongs to an
+activation, from its begin to its end; a lane that is free is used again. A legend stands at the end. Where a line is
+none of a report, it ends with 1 and says which; a file that can't be read ends it with 3.
 """
 from __future__ import annotations
 
@@ -25,15 +25,18 @@ COLUMN = 44
 TOP = 46
 LANE = 46
 BAND = 80
-FREE_AFTER = 3                   # columns from an activation's end to the next begin in its lane, for the words at its end
+FREE_AFTER = 3  # columns from an activation's end to the next begin in its lane, for the words at its end
 LEGEND = 26
 GREY, BLUE, GREEN, RED, ORANGE = "#888", "#36c", "#283", "#c22", "#b60"
 ARROWS = {ORANGE: "wait", RED: "cycle"}
-STATUSES = "0 the picture is printed; 1 a line is none of a report, or there is none; 2 wrong use; 3 the file can't be read."
+STATUSES = (
+    "0 the picture is printed; 1 a line is none of a report, or there is none; 2 wrong use; 3 the file can't be read."
+)
 
 
 class Lane:
-    """One activation: its name, its row, the columns of its begin and its end, and those from which it waits and from which it doesn't."""
+    """One activation: its name, its row, the columns of its begin and its end, and those from which it waits and from
+    which it doesn't."""
 
     def __init__(self, number: str, name: str, row: int, column: int) -> None:
         self.number, self.name, self.row = number, name, row
@@ -43,7 +46,10 @@ class Lane:
 
     def is_waiting(self, column: int) -> bool:
         """Whether it waits in front of this column."""
-        return any(start is not None and start < column <= (stop if stop is not None else column) for start, stop in self.waits)
+        return any(
+            start is not None and start < column <= (stop if stop is not None else column)
+            for start, stop in self.waits
+        )
 
 
 class Report:
@@ -52,7 +58,7 @@ class Report:
     def __init__(self) -> None:
         self.columns: list[list[tuple[Any, ...]]] = []
         self.lanes: dict[str, Lane] = {}
-        self.free: list[Optional[int]] = []               # for each row, the column from which it is free, or None
+        self.free: list[Optional[int]] = []  # for each row, the column from which it is free, or None
         self.crashed = False
 
     def new_column(self) -> int:
@@ -138,7 +144,11 @@ class Band:
         self.below: list[str] = []
         self.shapes: list[str] = []
         self.words: list[str] = []
-        rows = [lane.row for lane in report.lanes.values() if lane.begin < last and (lane.end is None or lane.end >= first)]
+        rows = [
+            lane.row
+            for lane in report.lanes.values()
+            if lane.begin < last and (lane.end is None or lane.end >= first)
+        ]
         self.height = TOP + LANE * (max(rows, default=0) + 1)
         for lane in report.lanes.values():
             self.draw_lane(lane)
@@ -156,8 +166,10 @@ class Band:
 
     def text(self, x: int, y: int, words: str, color: str = "#222", anchor: str = "middle") -> None:
         """Words with a white edge, so that they can be read on lines."""
-        self.words.append(f'<text x="{x}" y="{y}" fill="{color}" text-anchor="{anchor}" stroke="#fff" stroke-width="3" '
-                          f'paint-order="stroke">{escape(words)}</text>')
+        self.words.append(
+            f'<text x="{x}" y="{y}" fill="{color}" text-anchor="{anchor}" stroke="#fff" stroke-width="3" '
+            f'paint-order="stroke">{escape(words)}</text>'
+        )
 
     def draw_lane(self, lane: Lane) -> None:
         """The lane's line in this band: dashed where the activation waits."""
@@ -169,7 +181,9 @@ class Band:
         for column in range(max(lane.begin + 1, self.first), min(end, self.last - 1) + 1):
             dashes = ' stroke-dasharray="4 4"' if lane.is_waiting(column) else ""
             x, y = self.x(column), self.y(lane.number)
-            self.below.append(f'<line x1="{x - COLUMN}" y1="{y}" x2="{x}" y2="{y}" stroke="{GREY}" stroke-width="2"{dashes}/>')
+            self.below.append(
+                f'<line x1="{x - COLUMN}" y1="{y}" x2="{x}" y2="{y}" stroke="{GREY}" stroke-width="2"{dashes}/>'
+            )
 
     def begin(self, x: int, number: str) -> None:
         """A bar and the name."""
@@ -180,7 +194,10 @@ class Band:
     def turn(self, x: int, number: str, rows: str) -> None:
         """A box with the rows."""
         y = self.y(number)
-        self.shapes.append(f'<rect x="{x - 12}" y="{y - 10}" width="24" height="20" rx="3" fill="#fff" stroke="{BLUE}" stroke-width="2"/>')
+        self.shapes.append(
+            f'<rect x="{x - 12}" y="{y - 10}" width="24" height="20" rx="3" fill="#fff" '
+            f'stroke="{BLUE}" stroke-width="2"/>'
+        )
         self.shapes.append(f'<text x="{x}" y="{y + 4}" fill="{BLUE}" text-anchor="middle">{escape(rows)}</text>')
 
     def arrow(self, x: int, start: str, end: str, color: str) -> None:
@@ -188,8 +205,10 @@ class Band:
         y, to = self.y(start), self.y(end)
         shift = 6 if to > y else -6
         bend = x + (14 if color == RED and shift < 0 else -14 if color == RED else 0)
-        self.shapes.append(f'<path d="M{x} {y + shift} Q{bend} {(y + to) // 2} {x} {to - shift}" '
-                           f'fill="none" stroke="{color}" stroke-width="2" marker-end="url(#{ARROWS[color]})"/>')
+        self.shapes.append(
+            f'<path d="M{x} {y + shift} Q{bend} {(y + to) // 2} {x} {to - shift}" '
+            f'fill="none" stroke="{color}" stroke-width="2" marker-end="url(#{ARROWS[color]})"/>'
+        )
 
     def end(self, x: int, number: str, words: str, color: str) -> None:
         """A dot or a cross, and words beside it."""
@@ -198,7 +217,10 @@ class Band:
 
     def across(self, x: int, words: str, color: str) -> None:
         """A line over all lanes of the band."""
-        self.below.append(f'<line x1="{x}" y1="{self.top + TOP - 8}" x2="{x}" y2="{self.top + self.height - 4}" stroke="{color}" stroke-width="2"/>')
+        self.below.append(
+            f'<line x1="{x}" y1="{self.top + TOP - 8}" x2="{x}" '
+            f'y2="{self.top + self.height - 4}" stroke="{color}" stroke-width="2"/>'
+        )
         self.text(x, self.top + TOP - 12, words, color)
 
 
@@ -214,12 +236,17 @@ def legend(width: int, top: int) -> tuple[list[str], int]:
     arrow = '<path d="M{x} {y} L{z} {y}" stroke="{color}" stroke-width="2" marker-end="url(#{name})"/>'
     box = '<rect x="{x}" y="{up}" width="24" height="20" rx="3" fill="#fff" stroke="' + BLUE + '" stroke-width="2"/>'
     signs: list[tuple[str, Callable[[int, int], str]]] = [
-             ("a turn, with its rows", lambda x, y: box.format(x=x, up=y - 10)),
-             ("it waits for that one", lambda x, y: arrow.format(x=x, y=y, z=x + 24, color=ORANGE, name="wait")),
-             ("a cycle of waits", lambda x, y: arrow.format(x=x, y=y, z=x + 24, color=RED, name="cycle")),
-             ("a commit, with its number", lambda x, y: ending(x + 12, y, GREEN)),
-             ("an end without one", lambda x, y: ending(x + 12, y, RED)),
-             ("waiting", lambda x, y: f'<line x1="{x}" y1="{y}" x2="{x + 24}" y2="{y}" stroke="{GREY}" stroke-width="2" stroke-dasharray="4 4"/>')]
+        ("a turn, with its rows", lambda x, y: box.format(x=x, up=y - 10)),
+        ("it waits for that one", lambda x, y: arrow.format(x=x, y=y, z=x + 24, color=ORANGE, name="wait")),
+        ("a cycle of waits", lambda x, y: arrow.format(x=x, y=y, z=x + 24, color=RED, name="cycle")),
+        ("a commit, with its number", lambda x, y: ending(x + 12, y, GREEN)),
+        ("an end without one", lambda x, y: ending(x + 12, y, RED)),
+        (
+            "waiting",
+            lambda x, y: f'<line x1="{x}" y1="{y}" x2="{x + 24}" y2="{y}" stroke="{GREY}" stroke-width="2" '
+            'stroke-dasharray="4 4"/>',
+        ),
+    ]
     shapes: list[str] = []
     x, y = 8, top + LEGEND // 2
     for words, sign in signs:
@@ -233,8 +260,10 @@ def legend(width: int, top: int) -> tuple[list[str], int]:
 
 def marker(color: str) -> str:
     """An arrow's head."""
-    return (f'<marker id="{ARROWS[color]}" viewBox="0 0 10 10" refX="9" refY="5" markerWidth="5" markerHeight="5" '
-            f'orient="auto"><path d="M0 0 L10 5 L0 10 z" fill="{color}"/></marker>')
+    return (
+        f'<marker id="{ARROWS[color]}" viewBox="0 0 10 10" refX="9" refY="5" markerWidth="5" markerHeight="5" '
+        f'orient="auto"><path d="M0 0 L10 5 L0 10 z" fill="{color}"/></marker>'
+    )
 
 
 def written(report: Report) -> str:
@@ -246,9 +275,12 @@ def written(report: Report) -> str:
         top += bands[-1].height
     signs, high = legend(width, top + 10)
     height = top + high + 20
-    lines = [f'<svg xmlns="http://www.w3.org/2000/svg" width="{width}" height="{height}" '
-             f'viewBox="0 0 {width} {height}" font-family="sans-serif" font-size="12">',
-             f'<defs>{marker(ORANGE)}{marker(RED)}</defs>', f'<rect width="{width}" height="{height}" fill="#fff"/>']
+    lines = [
+        f'<svg xmlns="http://www.w3.org/2000/svg" width="{width}" height="{height}" '
+        f'viewBox="0 0 {width} {height}" font-family="sans-serif" font-size="12">',
+        f"<defs>{marker(ORANGE)}{marker(RED)}</defs>",
+        f'<rect width="{width}" height="{height}" fill="#fff"/>',
+    ]
     for band in bands:
         lines += band.below + band.shapes + band.words
     return "\n".join([*lines, *signs, "</svg>", ""])
@@ -256,7 +288,13 @@ def written(report: Report) -> str:
 
 def main() -> int:
     def add(parser: tool.Parser) -> None:
-        parser.add_argument("report", metavar="REPORT", nargs="?", default="-", help="a report; standard input where it is - or absent")
+        parser.add_argument(
+            "report",
+            metavar="REPORT",
+            nargs="?",
+            default="-",
+            help="a report; standard input where it is - or absent",
+        )
 
     options = tool.arguments(__doc__, STATUSES, add)
     text = tool.standard_input() if options.report == "-" else files.read_bytes(options.report)

@@ -10,7 +10,8 @@ FAILED = 3
 
 
 class Failure(Exception):
-    """What went wrong, in words for who called. `status` is that with which a script ends, 3 where nothing else is said."""
+    """What went wrong, in words for who called. `status` is that with which a script ends, 3 where nothing else is
+    said."""
 
     def __init__(self, message: str, status: int = FAILED) -> None:
         super().__init__(message)

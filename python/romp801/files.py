@@ -1,4 +1,5 @@
-"""Files that matter: read from the medium, locked as the program locks a store, and replaced whole (docs/OPERATION.md, "While it runs").
+"""Files that matter: read from the medium, locked as the program locks a store, and replaced whole
+(docs/OPERATION.md, "While it runs").
 
 Each call raises Failure, with the file's name, where the system refuses it.
 """
@@ -16,9 +17,16 @@ from typing import BinaryIO, Iterator, Optional, Union
 from romp801.errors import Failure, named
 from romp801.format import STORE_BYTES, Fault, Store
 
-KINDS = {stat.S_IFIFO: "a pipe", stat.S_IFDIR: "a folder", stat.S_IFCHR: "a device", stat.S_IFBLK: "a device", stat.S_IFSOCK: "a socket"}
+KINDS = {
+    stat.S_IFIFO: "a pipe",
+    stat.S_IFDIR: "a folder",
+    stat.S_IFCHR: "a device",
+    stat.S_IFBLK: "a device",
+    stat.S_IFSOCK: "a socket",
+}
 BESIDE = ".romp801-new"
-"""What the name of a file ends with that isn't whole yet; it begins with a dot and the name of the file that it is to become."""
+"""What the name of a file ends with that isn't whole yet; it begins with a dot and the name of the file that it is to
+become."""
 
 
 class Wait:
@@ -36,7 +44,8 @@ class Wait:
         return left > 0
 
     def for_store(self, path: str, alone: bool = True) -> bool:
-        """Whether a store that was refused is to be tried again: while another process has it, and once where it has it no more."""
+        """Whether a store that was refused is to be tried again: while another process has it, and once where it has
+        it no more."""
         if is_held(path, alone):
             return self.goes_on()
         first, self.tried = not self.tried, True
@@ -57,14 +66,15 @@ def open_store(path: str) -> BinaryIO:
 
 
 def forget(file: int) -> None:
-    """Has memory forget the clean pages of an open file, so that what is read next is on the medium: after a sync that failed memory may
-    have what the medium lacks (docs/OPERATION.md, "A disk that fails")."""
+    """Has memory forget the clean pages of an open file, so that what is read next is on the medium: after a sync
+    that failed memory may have what the medium lacks (docs/OPERATION.md, "A disk that fails")."""
     with contextlib.suppress(OSError):
         os.posix_fadvise(file, 0, 0, os.POSIX_FADV_DONTNEED)
 
 
 def forget_store(path: str) -> None:
-    """Has memory forget the clean pages of a store, under its lock where nobody has it. What can't be opened is left to who opens it."""
+    """Has memory forget the clean pages of a store, under its lock where nobody has it. What can't be opened is left
+    to who opens it."""
     with contextlib.suppress(Failure, OSError), open_store(path) as file:
         with contextlib.suppress(OSError):
             fcntl.flock(file, fcntl.LOCK_SH | fcntl.LOCK_NB)
@@ -106,7 +116,9 @@ def sound(image: bytes, path: str, more: str = "", status: int = 3) -> Store:
     try:
         return Store(image)
     except Fault as fault:
-        raise Failure(f"{path} is no store, or a damaged one, at byte {fault.offset}: {fault.why}{more}", status) from fault
+        raise Failure(
+            f"{path} is no store, or a damaged one, at byte {fault.offset}: {fault.why}{more}", status
+        ) from fault
 
 
 def sound_store(path: str) -> Store:
@@ -149,8 +161,10 @@ def _take(file: BinaryIO, path: str) -> bool:
 
 @contextlib.contextmanager
 def locked(path: str, seconds: Optional[float] = 0.0) -> Iterator[BinaryIO]:
-    """Holds the lock that the program takes on a store's file, so that nobody runs it meanwhile. What is written of the file is synced, and
-    memory forgets it, so that what is read is on the medium. Another who has it is waited for, `seconds` long or, with None, for ever."""
+    """Holds the lock that the program takes on a store's file, so that nobody runs it meanwhile. What is written of
+    the file is synced, and memory forgets it, so that what is read is on the medium. Another who has it is waited
+    for, `seconds` long or, with None, for ever.
+    """
     wait = Wait(seconds)
     file = open_store(path)
     while not _take(file, path):
@@ -169,8 +183,9 @@ def locked(path: str, seconds: Optional[float] = 0.0) -> Iterator[BinaryIO]:
 
 
 def hold_list(path: str) -> int:
-    """Takes the store for a list of transactions, and answers the open file that keeps it until the process ends. It is a lock of its own
-    (of the open file, by fcntl), beside which the program runs the store, and it leaves nothing on the disk."""
+    """Takes the store for a list of transactions, and answers the open file that keeps it until the process ends. It
+    is a lock of its own (of the open file, by fcntl), beside which the program runs the store, and it leaves nothing
+    on the disk."""
     words = struct.pack("hhqqi0q", fcntl.F_WRLCK, os.SEEK_SET, 0, 0, 0)
     try:
         while True:
@@ -186,7 +201,8 @@ def hold_list(path: str) -> int:
 
 
 def hold_folder(path: str) -> int:
-    """Makes a folder where there is none and takes it; answers the open folder, which keeps it until the process ends."""
+    """Makes a folder where there is none and takes it; answers the open folder, which keeps it until the process
+    ends."""
     try:
         make_folder(path)
         folder = os.open(path, os.O_RDONLY | os.O_DIRECTORY | os.O_CLOEXEC)
@@ -225,7 +241,7 @@ def write_all(file: int, data: Union[bytes, memoryview]) -> None:
     """Writes all of these bytes into an open file."""
     left = memoryview(data)
     while left:
-        left = left[os.write(file, left):]
+        left = left[os.write(file, left) :]
 
 
 def _open_beside(name: str, mode: int) -> int:
@@ -252,8 +268,10 @@ def _open_beside(name: str, mode: int) -> int:
 
 
 def write_whole(path: str, data: bytes, like: Optional[str] = None) -> None:
-    """Puts these bytes in the place of a file, at once: beside it first, then synced and renamed, so that a kill leaves the one or the other.
-    Where it fails nothing is left beside it. The new file has the rights, and where it may the owner, of the file `like`."""
+    """Puts these bytes in the place of a file, at once: beside it first, then synced and renamed, so that a kill
+    leaves the one or the other. Where it fails nothing is left beside it. The new file has the rights, and where it
+    may the owner, of the file `like`.
+    """
     path = os.path.realpath(path)
     folder, name = os.path.split(path)
     beside = os.path.join(folder, f".{name}{BESIDE}")
@@ -299,7 +317,8 @@ def same_file(one: str, other: str) -> bool:
 
 @contextlib.contextmanager
 def in_memory(data: bytes) -> Iterator[int]:
-    """An open file in memory with these bytes, at its front. It has no name, so nothing of it is left however the process ends."""
+    """An open file in memory with these bytes, at its front. It has no name, so nothing of it is left however the
+    process ends."""
     try:
         file = os.memfd_create("romp801", os.MFD_CLOEXEC)
     except OSError as error:

@@ -21,9 +21,9 @@ class Fault(Exception):
 class Store:
     """What an image stands for. Raises Fault where it is no store, or a damaged one.
 
-    `version`, `bank` (bytes of a record area), `segments` (pairs of identifier and pages), `flags`, `line` and `page` (bytes), `lines` (of
-    all segments), `length` (bytes of the file), `number` (commits so far), `base` (the number of the last checkpoint), `records` and
-    `used` (how many the bank holds, and their bytes).
+    `version`, `bank` (bytes of a record area), `segments` (pairs of identifier and pages), `flags`, `line` and `page`
+    (bytes), `lines` (of all segments), `length` (bytes of the file), `number` (commits so far), `base` (the number of
+    the last checkpoint), `records` and `used` (how many the bank holds, and their bytes).
     """
 
     def __init__(self, image: bytes) -> None:
@@ -65,7 +65,9 @@ class Store:
         self.lines = 16 * pages_of_all
         self.home = 272 + 2 * self.bank
         self.length = self.home + self.line * self.lines
-        self._is(len(self.image) == self.length, min(len(self.image), self.length), f"it should have {self.length} bytes")
+        self._is(
+            len(self.image) == self.length, min(len(self.image), self.length), f"it should have {self.length} bytes"
+        )
 
     def _directory(self, count: int) -> int:
         """Reads the segments; answers how many pages they have."""
@@ -76,11 +78,15 @@ class Store:
             self._is(before < segment <= 3839, place, f"segment {segment} doesn't stand behind {before}")
             pages: int = self._field(place + 2, ">H", "a segment's pages")
             pages_of_all += pages
-            self._is(1 <= pages <= 128 and pages_of_all <= 1024, place + 2, f"segment {segment} can't have {pages} pages")
+            self._is(
+                1 <= pages <= 128 and pages_of_all <= 1024, place + 2, f"segment {segment} can't have {pages} pages"
+            )
             self.segments.append((segment, pages))
             before = segment
         for at in range(16 + 4 * count, 76):
-            self._is(self._field(at, "B", "the end of the directory") == 0, at, "a byte of an unused entry isn't zero")
+            self._is(
+                self._field(at, "B", "the end of the directory") == 0, at, "a byte of an unused entry isn't zero"
+            )
         return pages_of_all
 
     def _bank(self) -> None:
@@ -108,8 +114,10 @@ class Store:
         before = -1
         for place in range(at + 11, after, 4 + self.line):
             index: int = struct.unpack_from(">I", self.image, place)[0]
-            self._is(before < index < self.lines, place, f"a record has line {index} behind {before}, of {self.lines}")
-            self.newest[index] = self.image[place + 4:place + 4 + self.line]
+            self._is(
+                before < index < self.lines, place, f"a record has line {index} behind {before}, of {self.lines}"
+            )
+            self.newest[index] = self.image[place + 4 : place + 4 + self.line]
             before = index
         self.number = number
         self.records += 1
@@ -124,16 +132,17 @@ class Store:
         return bool(self.flags >> place & 1)
 
     def is_alike(self, other: Store) -> bool:
-        """Whether a store can follow another: of one version, with the same segments and flags. `follow` alone looks only at the lines."""
+        """Whether a store can follow another: of one version, with the same segments and flags. `follow` alone looks
+        only at the lines."""
         return (self.version, self.segments, self.flags) == (other.version, other.segments, other.flags)
 
     def content(self) -> dict[int, bytes]:
         """The committed bytes of each segment, by its identifier."""
-        whole = bytearray(self.image[self.home:])
+        whole = bytearray(self.image[self.home :])
         for index, line in self.newest.items():
-            whole[index * self.line:(index + 1) * self.line] = line
+            whole[index * self.line : (index + 1) * self.line] = line
         found, at = {}, 0
         for segment, pages in self.segments:
-            found[segment] = bytes(whole[at:at + pages * self.page])
+            found[segment] = bytes(whole[at : at + pages * self.page])
             at += pages * self.page
         return found

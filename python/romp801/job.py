@@ -1,4 +1,5 @@
-"""Jobs as text: tokens, the front with its programs, and lists of transactions (docs/FORMATS.md, "Job" and "Assembler")."""
+"""Jobs as text: tokens, the front with its programs, and lists of transactions (docs/FORMATS.md, "Job" and
+"Assembler")."""
 from __future__ import annotations
 
 import re
@@ -9,13 +10,16 @@ BLANKS = " \t\r"
 TOKEN = re.compile(r"[A-Za-z_.][A-Za-z0-9_]*|[0-9][A-Za-z0-9]*|[,():+-]")
 DIRECTIVES = {".word": 4, ".half": 2, ".byte": 1, ".window": 0, ".entry": 0, ".export": 0, ".part": 0}
 SHORT = frozenset(
-    "a abs ae ais balr balrx bbr bbrx bnbr bnbrx c cas cis cl clrbl clrbu dec exts inc jb jnb lcs lhas lhs lis ls n o onec s sar sari16 sari se "
-    "setbl setbu sf sis sl sli16 sli sr sri16 sri stcs sths sts tgte tlt twoc x".split())
+    "a abs ae ais balr balrx bbr bbrx bnbr bnbrx c cas cis cl clrbl clrbu dec exts inc jb jnb lcs lhas lhs lis ls n o "
+    "onec s sar sari16 sari se "
+    "setbl setbu sf sis sl sli16 sli sr sri16 sri stcs sths sts tgte tlt twoc x".split()
+)
 """The mnemonics of two bytes; all others have four."""
 
 
 def words_of(line: str) -> list[str]:
-    """The words of a line between blanks, without its comment. A letter beyond ASCII is no blank, whatever it is elsewhere."""
+    """The words of a line between blanks, without its comment. A letter beyond ASCII is no blank, whatever it is
+    elsewhere."""
     return [it for it in re.split(f"[{BLANKS}]+", line.split(";")[0]) if it]
 
 
@@ -53,7 +57,8 @@ def front_of(text: str) -> str:
 
 
 def list_of(text: str) -> dict[int, str]:
-    """The transactions of a list by their line numbers, from 1, without comments. A line ends with a line feed alone."""
+    """The transactions of a list by their line numbers, from 1, without comments. A line ends with a line feed
+    alone."""
     found = {}
     for number, line in enumerate(text.split("\n"), 1):
         words = words_of(line)

@@ -36,8 +36,8 @@ class Program:
 
     @classmethod
     def find(cls, named: Optional[str] = None) -> Program:
-        """The one that is named, else that of the variable ROMP801, else the one that was built in this repository, proved or else unproved,
-        else romp801 on PATH. Raises Failure where there is none."""
+        """The one that is named, else that of the variable ROMP801, else the one that was built in this repository,
+        proved or else unproved, else romp801 on PATH. Raises Failure where there is none."""
         named = named or os.environ.get("ROMP801")
         if named:
             if not os.access(named, os.X_OK) or not os.path.isfile(named):
@@ -51,34 +51,51 @@ class Program:
             return cls(str(UNPROVED))
         found = shutil.which("romp801")
         if not found:
-            raise Failure("the program isn't built: ./romp801 --build proves and builds it, ./romp801 --unproved try builds one without a proof")
+            raise Failure(
+                "the program isn't built: ./romp801 --build proves and builds it, "
+                "./romp801 --unproved try builds one without a proof"
+            )
         return cls(os.path.abspath(found))
 
     def start(self, *line: str, given: bytes = b"", keeps: Iterable[int] = ()) -> subprocess.Popen[bytes]:
-        """Starts the program with these words on these bytes; its output and errors are pipes. Of a store memory forgets the clean pages
-        first, so that the program opens what the medium holds. `keeps` are open files that it has too."""
+        """Starts the program with these words on these bytes; its output and errors are pipes. Of a store memory
+        forgets the clean pages first, so that the program opens what the medium holds. `keeps` are open files that it
+        has too."""
         for word in line:
             try:
                 os.fsencode(word).decode("utf-8")
             except UnicodeDecodeError as error:
-                raise Failure(f"the program takes names in UTF-8 alone, and {os.fsencode(word)!r} isn't", WRONG_USE) from error
+                raise Failure(
+                    f"the program takes names in UTF-8 alone, and {os.fsencode(word)!r} isn't", WRONG_USE
+                ) from error
         if line[0] in OF_A_STORE:
             files.forget_store(line[1])
         with files.in_memory(given) as text:
-            return subprocess.Popen([self.path, *line], stdin=text, stdout=subprocess.PIPE, stderr=subprocess.PIPE, pass_fds=tuple(keeps))
+            return subprocess.Popen(
+                [self.path, *line], stdin=text, stdout=subprocess.PIPE, stderr=subprocess.PIPE, pass_fds=tuple(keeps)
+            )
 
-    def call(self, *line: str, given: bytes = b"", seconds: Optional[float] = 0.0) -> subprocess.CompletedProcess[bytes]:
-        """Calls the program with these words on these bytes. Where another process has the store it is waited for, `seconds` long."""
+    def call(
+        self, *line: str, given: bytes = b"", seconds: Optional[float] = 0.0
+    ) -> subprocess.CompletedProcess[bytes]:
+        """Calls the program with these words on these bytes. Where another process has the store it is waited for,
+        `seconds` long."""
         wait = files.Wait(seconds)
         while True:
             with self.start(*line, given=given) as child:
                 output, errors = child.communicate()
-            if child.returncode != BUSY or output or line[0] not in OF_A_STORE or not wait.for_store(line[1], line[0] not in LOOKS):
+            if (
+                child.returncode != BUSY
+                or output
+                or line[0] not in OF_A_STORE
+                or not wait.for_store(line[1], line[0] not in LOOKS)
+            ):
                 return subprocess.CompletedProcess(child.args, child.returncode, output, errors)
 
     def number(self, store: str, seconds: Optional[float] = 0.0) -> int:
-        """The number of a store, told by the program, which syncs the file as it opens it; raises Failure where it doesn't open. It is
-        `ship` that is asked, of a number that no store has: the right to read is enough, and the lock is shared."""
+        """The number of a store, told by the program, which syncs the file as it opens it; raises Failure where it
+        doesn't open. It is `ship` that is asked, of a number that no store has: the right to read is enough, and the
+        lock is shared."""
         done = self.call("ship", store, str(2**64 - 1), seconds=seconds)
         if done.returncode == NOT_KEPT:
             return int(done.stderr.split()[2])
@@ -87,11 +104,13 @@ class Program:
         raise Failure(f"{store} doesn't open: {why_not(store, done)}")
 
     def replay(self, job: bytes, opening: bytes, number: int, least: int = 0, to_next: bool = False) -> Replay:
-        """The report that a job has on a copy of a store: a job on a store has one report, whenever it is run. It goes up to the commit with
-        this number and to its first `least` bytes at least; with `to_next` up to the commit after that, which isn't in it. The copy lies in
-        memory."""
+        """The report that a job has on a copy of a store: a job on a store has one report, whenever it is run. It
+        goes up to the commit with this number and to its first `least` bytes at least; with `to_next` up to the
+        commit after that, which isn't in it. The copy lies in memory."""
         report, reached = b"", None
-        with files.in_memory(opening) as store, self.start("run", f"/proc/self/fd/{store}", given=job, keeps=[store]) as child:
+        with files.in_memory(opening) as store, self.start(
+            "run", f"/proc/self/fd/{store}", given=job, keeps=[store]
+        ) as child:
             assert child.stdout is not None
             for line in child.stdout:
                 parts = line.split()
@@ -108,7 +127,9 @@ class Program:
         return Replay(report, reached)
 
 
-def refused(done: subprocess.CompletedProcess[bytes], what: str, store: Optional[str] = None) -> subprocess.CompletedProcess[bytes]:
+def refused(
+    done: subprocess.CompletedProcess[bytes], what: str, store: Optional[str] = None
+) -> subprocess.CompletedProcess[bytes]:
     """Raises Failure where the program didn't end with Done, with its status in words."""
     if done.returncode:
         raise Failure(f"{what}: {ended(done.returncode, done.stderr, store)}")

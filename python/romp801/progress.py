@@ -1,15 +1,19 @@
 """What a list of transactions has come to: one file, of which each state says exactly what is done.
 
-It is a text of records, each a line `LENGTH SUM JSON`: how many bytes the JSON has, and a sum over it and the sum of the record before. So a
-piece of a record, as a kill or a full disk leaves it at the end, is a piece and never another record, and it is cut off before the next
-is put. A record is synced before what it says is acted on. In this order there are
+It is a text of records, each a line `LENGTH SUM JSON`: how many bytes the JSON has, and a sum over it and the sum of
+the record before. So a piece of a record, as a kill or a full disk leaves it at the end, is a piece and never another
+record, and it is cut off before the next is put. A record is synced before what it says is acted on. In this order
+there are
 
-    {"list": SUM, "count": N, "number": N}               once, the first: the sum of the list's text, how many transactions it has, and the store's
-                                                         number when it was begun
-    {"job": SUM, "opening": SUM, "number": N, "lines": [..]}   a job is about to be run: its sum, that of the store before it and the store's
-                                                         number then, and the list's lines of its activations, in order
-    {"over": [[LINE, HOW], ..], "number": N, "due": B}   the job is over: how these ended, the store's number then, and whether a command is due
-    {"after": true}                                      the command that was due has been run
+    {"list": SUM, "count": N, "number": N}
+        once, the first: the sum of the list's text, how many transactions it has, the store's number when it was begun
+    {"job": SUM, "opening": SUM, "number": N, "lines": [..]}
+        a job is about to be run: its sum, that of the store before it, the store's number then, and the list's lines of
+        its activations, in order
+    {"over": [[LINE, HOW], ..], "number": N, "due": B}
+        the job is over: how these ended, the store's number then, and whether a command is due
+    {"after": true}
+        the command that was due has been run
 
 The first is written whole and renamed, so a new list's file takes the place of an old one's at once.
 """
@@ -28,7 +32,8 @@ FRAME = re.compile(rb"([0-9]{1,9}) ([0-9a-f]{32}) ")
 
 
 class Job(NamedTuple):
-    """A job that may have been run: its sum, its opening store's sum and number, and the list's lines of its activations."""
+    """A job that may have been run: its sum, its opening store's sum and number, and the list's lines of its
+    activations."""
 
     sum: str
     opening: str
@@ -49,8 +54,8 @@ def framed(record: dict[str, Any], before: str) -> tuple[bytes, str]:
 
 
 class Progress:
-    """The file's content. `ended` tells of each line how it ended; `job` is the one that isn't over, `number` the store's number when the
-    last one was over or the list was begun, `due` whether a command is to be run."""
+    """The file's content. `ended` tells of each line how it ended; `job` is the one that isn't over, `number` the
+    store's number when the last one was over or the list was begun, `due` whether a command is to be run."""
 
     def __init__(self, path: str) -> None:
         self.path = path
@@ -87,7 +92,9 @@ class Progress:
         while found._take(data):
             pass
         if not found.list:
-            raise Failure(f"{path} is no list's file, or was spoiled: look at the store, and remove it to begin the list anew")
+            raise Failure(
+                f"{path} is no list's file, or was spoiled: look at the store, and remove it to begin the list anew"
+            )
         return found
 
     @property
@@ -100,13 +107,13 @@ class Progress:
         frame = FRAME.match(data, self.length)
         if not frame:
             return False
-        text = data[frame.end():frame.end() + int(frame[1])]
+        text = data[frame.end() : frame.end() + int(frame[1])]
         try:
             record = json.loads(text)
         except ValueError:
             return False
         whole, own = framed(record, self.last)
-        if data[self.length:self.length + len(whole)] != whole:
+        if data[self.length : self.length + len(whole)] != whole:
             return False
         self._apply(record)
         self.length, self.last = self.length + len(whole), own

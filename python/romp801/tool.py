@@ -1,4 +1,5 @@
-"""How a script begins and ends: its words, its streams and its status, which is never that of an answer where it failed."""
+"""How a script begins and ends: its words, its streams and its status, which is never that of an answer where it
+failed."""
 from __future__ import annotations
 
 import argparse
@@ -30,7 +31,8 @@ def say(message: str) -> None:
 
 
 def _open_streams() -> None:
-    """Sees that no file that is opened later takes the place of a standard stream that is closed, and that each letter can be put."""
+    """Sees that no file that is opened later takes the place of a standard stream that is closed, and that each
+    letter can be put."""
     for number in range(3):
         try:
             os.fstat(number)
@@ -68,8 +70,10 @@ def _status_of(main: Callable[[], int]) -> int:
 
 
 def start(main: Callable[[], int]) -> NoReturn:
-    """Calls a script's main function, and ends with what it answers. Where it is interrupted (130), or who reads its output has gone (141), it
-    ends as such programs do; what nobody took ends it with 3, with words. Nothing that can't be put changes the status at the end."""
+    """Calls a script's main function, and ends with what it answers. Where it is interrupted (130), or who reads its
+    output has gone (141), it ends as such programs do; what nobody took ends it with 3, with words. Nothing that
+    can't be put changes the status at the end.
+    """
     _open_streams()
     status = _status_of(main)
     for stream in (sys.stdout, sys.stderr):
@@ -113,14 +117,22 @@ def _named(line: list[str]) -> list[str]:
     if "--" not in line:
         return line
     at = line.index("--")
-    return line[:at] + [f"./{it}" if it.startswith("-") else it for it in line[at + 1:]]
+    return line[:at] + [f"./{it}" if it.startswith("-") else it for it in line[at + 1 :]]
 
 
-def arguments(description: Optional[str], statuses: str, add: Callable[[argparse.ArgumentParser], object]) -> argparse.Namespace:
-    """The words of the command line. `add` takes the parser and adds what the script wants; `statuses` says what it ends with."""
+def arguments(
+    description: Optional[str], statuses: str, add: Callable[[argparse.ArgumentParser], object]
+) -> argparse.Namespace:
+    """The words of the command line. `add` takes the parser and adds what the script wants; `statuses` says what it
+    ends with."""
     folder = pathlib.Path(sys.argv[0]).resolve().parent.name
-    parser = _Words(prog=f"{folder}/{name()}", description=_folded(description or ""), formatter_class=_Form, allow_abbrev=False,
-                    epilog=_folded(f"Exit status: {statuses}"))
+    parser = _Words(
+        prog=f"{folder}/{name()}",
+        description=_folded(description or ""),
+        formatter_class=_Form,
+        allow_abbrev=False,
+        epilog=_folded(f"Exit status: {statuses}"),
+    )
     add(parser)
     try:
         return parser.parse_args(_named(sys.argv[1:]))
@@ -131,8 +143,12 @@ def arguments(description: Optional[str], statuses: str, add: Callable[[argparse
 
 def add_program(parser: argparse.ArgumentParser) -> None:
     """The option --program."""
-    parser.add_argument("--program", metavar="FILE", help="the program to call; else that of the variable ROMP801, else the one that was "
-                        "built here, proved or else unproved, else romp801 on PATH")
+    parser.add_argument(
+        "--program",
+        metavar="FILE",
+        help="the program to call; else that of the variable ROMP801, else the one that was "
+        "built here, proved or else unproved, else romp801 on PATH",
+    )
 
 
 def seconds(text: str) -> float:
@@ -146,8 +162,13 @@ def seconds(text: str) -> float:
 def add_wait(parser: argparse.ArgumentParser, default: Optional[float] = 0.0) -> None:
     """The option --wait."""
     usual = "for ever" if default is None else f"{default:g}"
-    parser.add_argument("--wait", metavar="SECONDS", type=seconds, default=default,
-                        help=f"wait so long for a store that another process has, such as 0.5; usually {usual}")
+    parser.add_argument(
+        "--wait",
+        metavar="SECONDS",
+        type=seconds,
+        default=default,
+        help=f"wait so long for a store that another process has, such as 0.5; usually {usual}",
+    )
 
 
 def standard_input() -> bytes:

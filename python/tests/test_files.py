@@ -52,7 +52,8 @@ class Whole(unittest.TestCase):
                     self.assertEqual(held, b"new")
 
     def test_each_step_is_the_last(self) -> None:
-        """Where the process ends in front of a call or behind it the old file or the new one is there, and the next call takes what is left."""
+        """Where the process ends in front of a call or behind it the old file or the new one is there, and the next
+        call takes what is left."""
         for step in STEPS[:5]:
             for behind in (False, True):
                 files.write_whole(self.path, b"old")

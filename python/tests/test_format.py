@@ -7,7 +7,9 @@ import unittest
 from romp801 import Fault, Store
 
 
-def image(version: int = 1, bank: int = 4096, segments: tuple[tuple[int, int], ...] = ((1, 1),), flags: int = 0) -> bytearray:
+def image(
+    version: int = 1, bank: int = 4096, segments: tuple[tuple[int, int], ...] = ((1, 1),), flags: int = 0
+) -> bytearray:
     """A fresh store's bytes."""
     line = 128 * version
     made = bytearray(272 + 2 * bank + 16 * line * sum(pages for _, pages in segments))
@@ -25,7 +27,7 @@ def with_record(made: bytearray, at: int, number: int, lines: dict[int, bytes]) 
     at += 11
     for index, data in lines.items():
         struct.pack_into(">I", made, at, index)
-        made[at + 4:at + 4 + len(data)] = data
+        made[at + 4 : at + 4 + len(data)] = data
         at += 4 + len(data)
     return at
 
@@ -44,7 +46,7 @@ class Reading(unittest.TestCase):
     def test_records(self) -> None:
         """The newest line is that of the last record, over the home lines."""
         made = image()
-        made[272 + 8192:272 + 8192 + 128] = b"h" * 128
+        made[272 + 8192 : 272 + 8192 + 128] = b"h" * 128
         at = with_record(made, 264, 1, {0: b"a" * 128, 3: b"b" * 128})
         with_record(made, at, 2, {3: b"c" * 128})
         store = Store(bytes(made))
@@ -84,7 +86,20 @@ class Faults(unittest.TestCase):
 
     def test_fields(self) -> None:
         """Each field that is wrong is told by its own offset."""
-        for at, value in ((0, 0), (8, 9), (11, 0), (11, 16), (13, 0xFF), (17, 0), (19, 0), (19, 200), (20, 1), (75, 1), (76, 1), (127, 1)):
+        for at, value in (
+            (0, 0),
+            (8, 9),
+            (11, 0),
+            (11, 16),
+            (13, 0xFF),
+            (17, 0),
+            (19, 0),
+            (19, 200),
+            (20, 1),
+            (75, 1),
+            (76, 1),
+            (127, 1),
+        ):
             made = image()
             made[at] = value
             self.at(made, {11: 10, 13: 12, 17: 16, 19: 18}.get(at, at))

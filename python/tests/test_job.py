@@ -15,7 +15,11 @@ class Jobs(unittest.TestCase):
 
     def test_sizes(self) -> None:
         """A mnemonic has two bytes where docs/FORMATS.md, "Rows", gives it a form of two."""
-        rows = re.findall(r"^\| `(\w+)` \| `[^`]*` \| (J|S|X|R|D|BI|BA) \|", (TOP / "docs/FORMATS.md").read_text(encoding="utf-8"), re.M)
+        rows = re.findall(
+            r"^\| `(\w+)` \| `[^`]*` \| (J|S|X|R|D|BI|BA) \|",
+            (TOP / "docs/FORMATS.md").read_text(encoding="utf-8"),
+            re.M,
+        )
         self.assertEqual(len(rows), 85)
         for name, form in rows:
             self.assertEqual(job.size_of([name]), 2 if form in "JSXR" else 4, name)
@@ -25,7 +29,9 @@ class Jobs(unittest.TestCase):
         self.assertEqual(job.list_of("a 1\r\n\n; no\nb\t2 ; \x85 c 3\n"), {1: "a 1", 4: "b 2"})
         self.assertEqual(job.list_of("a 1\xa02\n"), {1: "a 1\xa02"})
         self.assertEqual(job.tokens_of("x:.byte-1 ; 2"), ["x", ":", ".byte", "-", "1"])
-        self.assertEqual([job.size_of(job.tokens_of(it)) for it in (".space 010", ".space 0x10", ".byte-1", "")], [10, 16, 1, 0])
+        self.assertEqual(
+            [job.size_of(job.tokens_of(it)) for it in (".space 010", ".space 0x10", ".byte-1", "")], [10, 16, 1, 0]
+        )
 
     def test_fronts(self) -> None:
         """A front ends in front of the schedule, and each of its lines with a line feed."""

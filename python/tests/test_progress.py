@@ -36,8 +36,12 @@ class Cuts(unittest.TestCase):
         made = Progress.begin(self.path, sum_of(b"list"), 4, 7)
         states = [(made.length, state(made))]
         calls: list[Callable[[], None]] = [
-            lambda: made.begin_job(JOB), lambda: made.end_job([(1, "commit 8 out -"), (33, "check 8 at 00000024")], 8, True), made.end_after,
-            lambda: made.begin_job(JOB._replace(number=8, lines=[2, 3])), lambda: made.end_job([(2, "commit 9 out 00ff")], 9, False)]
+            lambda: made.begin_job(JOB),
+            lambda: made.end_job([(1, "commit 8 out -"), (33, "check 8 at 00000024")], 8, True),
+            made.end_after,
+            lambda: made.begin_job(JOB._replace(number=8, lines=[2, 3])),
+            lambda: made.end_job([(2, "commit 9 out 00ff")], 9, False),
+        ]
         for call in calls:
             call()
             states.append((made.length, state(made)))
@@ -69,7 +73,7 @@ class Cuts(unittest.TestCase):
         data = files.read_bytes(self.path)
         for at in range(states[0][0], len(data)):
             with open(self.path, "wb") as file:
-                file.write(data[:at] + bytes([data[at] ^ 1]) + data[at + 1:])
+                file.write(data[:at] + bytes([data[at] ^ 1]) + data[at + 1 :])
             found = Progress.read(self.path)
             assert found is not None
             self.assertEqual(state(found), [it for length, it in states if length <= at][-1])
