@@ -11,6 +11,7 @@ import fcntl
 import os
 import stat
 import struct
+import tempfile
 import time
 from typing import BinaryIO, Iterator, Optional, Union
 
@@ -317,10 +318,14 @@ def same_file(one: str, other: str) -> bool:
 
 @contextlib.contextmanager
 def in_memory(data: bytes) -> Iterator[int]:
-    """An open file in memory with these bytes, at its front. It has no name, so nothing of it is left however the
-    process ends."""
+    """An open file without a name that has these bytes, at its front: in memory, or else in the folder for such files.
+    So nothing of it is left however the process ends."""
     try:
-        file = os.memfd_create("romp801", os.MFD_CLOEXEC)
+        try:
+            file = os.memfd_create("romp801", os.MFD_CLOEXEC)
+        except OSError:
+            with tempfile.TemporaryFile() as there:
+                file = os.dup(there.fileno())
     except OSError as error:
         raise named(error, "a file in memory") from error
     try:
@@ -329,3 +334,16 @@ def in_memory(data: bytes) -> Iterator[int]:
         yield file
     finally:
         os.close(file)
+
+
+@contextlib.contextmanager
+def copy_of(data: bytes) -> Iterator[tuple[str, list[int]]]:
+    """A store of these bytes for the program to run on: its name, and the open files that the program has to have."""
+    with in_memory(data) as file:
+        name = f"/proc/self/fd/{file}"
+        if os.path.exists(name):
+            yield name, [file]
+            return
+    with tempfile.TemporaryDirectory(prefix="romp801-") as folder:
+        write_whole(f"{folder}/store", data)
+        yield f"{folder}/store", []

@@ -106,11 +106,9 @@ class Program:
     def replay(self, job: bytes, opening: bytes, number: int, least: int = 0, to_next: bool = False) -> Replay:
         """The report that a job has on a copy of a store: a job on a store has one report, whenever it is run. It
         goes up to the commit with this number and to its first `least` bytes at least; with `to_next` up to the
-        commit after that, which isn't in it. The copy lies in memory."""
+        commit after that, which isn't in it. The copy lies in memory, where it may."""
         report, reached = b"", None
-        with files.in_memory(opening) as store, self.start(
-            "run", f"/proc/self/fd/{store}", given=job, keeps=[store]
-        ) as child:
+        with files.copy_of(opening) as (store, keeps), self.start("run", store, given=job, keeps=keeps) as child:
             assert child.stdout is not None
             for line in child.stdout:
                 parts = line.split()

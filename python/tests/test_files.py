@@ -152,5 +152,27 @@ class Locks(unittest.TestCase):
                 files.open_store(path)
 
 
+class Copies(unittest.TestCase):
+    """Files without a name."""
+
+    def test_copies(self) -> None:
+        """In memory, in the folder for such files, or, where no open file has a name, under a name of its own."""
+        choices: list[list[Any]] = [
+            [],
+            [mock.patch("os.memfd_create", side_effect=OSError(1, "no"))],
+            [mock.patch("os.path.exists", return_value=False)],
+        ]
+        for patches in choices:
+            for it in patches:
+                it.start()
+            try:
+                with files.copy_of(b"bytes") as (name, keeps):
+                    self.assertEqual(files.read_bytes(name), b"bytes")
+            finally:
+                for it in patches:
+                    it.stop()
+            self.assertFalse(os.path.exists(name))
+
+
 if __name__ == "__main__":
     unittest.main()
