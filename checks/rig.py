@@ -5,6 +5,7 @@ The tools are treated as programs here: nothing is taken from their code.
 import os
 import pathlib
 import shutil
+import signal
 import subprocess
 from dataclasses import dataclass, field
 from typing import Dict, List, Optional, Sequence
@@ -41,15 +42,22 @@ class Found:
         return holds
 
 
+HANGS = -1000                    # the status of what didn't end in time
+
+
 def call(words: Sequence[str], given: bytes = b"", folder: Optional[str] = None, seconds: float = 120,
          environment: Optional[Dict[str, str]] = None) -> Done:
-    """Runs a program to its end, on these bytes; one that doesn't end is ended, with status -9."""
-    try:
-        done = subprocess.run(words, input=given, capture_output=True, cwd=folder, timeout=seconds,
-                              env={**os.environ, **(environment or {})})
-    except subprocess.TimeoutExpired as late:
-        return Done(-9, (late.stdout or b"").decode(errors="replace"), "it didn't end in time")
-    return Done(done.returncode, done.stdout.decode(errors="replace"), done.stderr.decode(errors="replace"))
+    """Runs a program to its end, on these bytes; one that doesn't end in time is ended, with all that it began."""
+    with subprocess.Popen(words, stdin=subprocess.PIPE, stdout=subprocess.PIPE, stderr=subprocess.PIPE, cwd=folder,
+                          env={**os.environ, **(environment or {})}, start_new_session=True) as child:
+        try:
+            out, err = child.communicate(given, timeout=seconds)
+            status = child.returncode
+        except subprocess.TimeoutExpired:
+            os.killpg(child.pid, signal.SIGKILL)
+            out, err = child.communicate()
+            status = HANGS
+    return Done(status, out.decode(errors="replace"), err.decode(errors="replace"))
 
 
 def job(*events: str) -> bytes:
