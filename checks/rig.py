@@ -11,7 +11,8 @@ from dataclasses import dataclass, field
 from typing import Dict, List, Optional, Sequence
 
 TOP = pathlib.Path(__file__).resolve().parent.parent
-FRONT = "frames 2\nprogram add5\n.window 1, 1, rw\ncau r6, r0, 0x1000\nl r3, 0(r6)\nai r3, r3, 5\nst r3, 0(r6)\nsvc 0\nend\n"
+FRONT = ("frames 2\nprogram add5\n.window 1, 1, rw\ncau r6, r0, 0x1000\nl r3, 0(r6)\nai r3, r3, 5\nst r3, 0(r6)\n"
+         "svc 0\nend\n")
 NO_NUMBER = str(2**64 - 1)       # a store's number that none has
 
 
