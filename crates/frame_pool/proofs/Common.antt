@@ -17,7 +17,7 @@ pub use Rattle.lines.specs.Resident.{first_out, taken_out}
 pub use Rattle.lines.specs.Sets.{has}
 pub use Rattle.lines.proofs.OverlayLemmas.{length-overlaid}
 pub use Rattle.lines.specs.Overlay.{overlaid}
-pub use Rattle.frame_pool.specs.Places.{CameIn, Places, frame_of_index, index_out, place_left, frame_of_page}
+pub use Rattle.frame_pool.specs.Places.{CameIn, Places, frame_of_page, goes_out, page_left, place_left}
 pub use Rattle.frame_pool.specs.PlacesView.{pool_places}
 pub use Rattle.frame_pool.specs.Pool.{Brought, pool_emptied, frame_at, frame_bytes, gone, paging_after, kept_laid, line_kept, line_laid, page_laid, marked_in, marks_at, page_at, page_out, with_bytes, with_marks, with_room}
 pub use Rattle.frame_pool.specs.Seen.{IsSeen}

@@ -1,5 +1,7 @@
 pub mod Common
 pub mod SoundLemmas
+pub mod ArrivalLemmas
+pub mod RingLemmas
 pub mod PoolLemmas
 pub mod LendLemmas
 pub mod LayLemmas

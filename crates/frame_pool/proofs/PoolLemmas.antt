@@ -1,7 +1,7 @@
 -- What a step of the pool needs and leaves.
-use Rattle.frame_pool.proofs.Common.{◌≡◌, ℕ, zero, suc, ◌+◌, ◌*◌, ◌<◌, ◌≤◌, Bool, true, false, List, [], ◌∷◌, length, refl, arith, Some, None, All, vec_len, ◌==◌, not, nat_lt, position, find, remove, slice_index, slice_set, if◌then◌else◌, Option, unwrap_or, option_to_list, prefix_len, list_any, overlaid, nat_tests, All-from_get_or, position-Some, page_bytes, IsOfPage, has, first_out, taken_out, Inside, Pool, frame_count, Places, place_left, index_out, CameIn, pool_places, PoolHasSizes, IsSeen, IsOfStore, subst, is_apart, frame_at, page_at, marks_at, frame_bytes, paging_after, gone, page_out, with_room, Brought, pool_emptied, pool_shown}
+use Rattle.frame_pool.proofs.Common.{ap, fold, ◌≡◌, ℕ, zero, suc, ◌+◌, ◌*◌, ◌<◌, ◌≤◌, Bool, true, false, List, [], ◌∷◌, length, refl, arith, Some, None, All, vec_len, ◌==◌, not, nat_lt, position, find, remove, slice_index, slice_set, if◌then◌else◌, Option, unwrap_or, option_to_list, overlaid, nat_tests, All-from_get_or, position-Some, page_bytes, IsOfPage, has, first_out, taken_out, Inside, Pool, frame_count, Places, place_left, CameIn, pool_places, PoolHasSizes, IsSeen, IsOfStore, subst, is_apart, frame_at, page_at, marks_at, frame_bytes, paging_after, gone, page_out, with_room, Brought, pool_emptied, pool_shown}
 use Rattle.lines.proofs.LineSetLemmas.{of_page-below}
-use Rattle.frame_pool.proofs.SoundLemmas.{first-apart, has-at, has-push_last, resident-in_frame, page-within, frame_of_store, page_part, none_room, index_out_below}
+use Rattle.frame_pool.proofs.SoundLemmas.{absent-taken, first-apart, has-at, has-push_last, resident-in_frame, page-within, frame_of_store, page_part, not-all-stay, out_resident}
 
 -- the pool of places and the other parts
 abbrev pub shown_with : Places → (bytes : List ℕ) → List (List ℕ) → (kept : List ℕ) → Pool
@@ -16,11 +16,6 @@ shown_with places bytes marked kept =
       marked = marked;
       kept = kept;
     }
-
--- a list that lacks a number is as before without it
-absent-taken : (x : ℕ) (xs : List ℕ) → has xs x ≡ false → taken_out (x ∷ []) xs ≡ xs
-absent-taken x [] absent = refl
-absent-taken x (y ∷ ys) absent = grind (arith, nat_tests, absent-taken x ys)
 
 -- what is removed of a list in which no number stands twice is taken out of it
 pub removed-taken : (xs : List ℕ) (i : ℕ) → is_apart xs ≡ true → i < length xs → remove xs i ≡ taken_out (slice_index xs i ∷ []) xs
@@ -39,11 +34,11 @@ pub gone-from :
     }
 gone-from pool page frame there = grind (arith, nat_tests)
 
--- the frame of the page at an index of the resident ones
-pub frame-at_index :
-    (p : Inside) (index page frame : ℕ) → index < length p.places.resident.items → page ≡ slice_index p.places.resident.items index
-    → frame ≡ unwrap_or (frame_at (pool_shown p) page) 0 → frame_at (pool_shown p) page ≡ Some frame
-frame-at_index p index page frame below is found = grind (arith, nat_tests, resident-in_frame (pool_places p.places) index p.places.sound below)
+-- the frame of a resident page
+pub frame-at_resident :
+    (p : Inside) (page frame : ℕ) → has p.places.resident.order page ≡ true → frame ≡ unwrap_or (frame_at (pool_shown p) page) 0
+    → frame_at (pool_shown p) page ≡ Some frame
+frame-at_resident p page frame resident found = grind (arith, nat_tests, resident-in_frame (pool_places p.places) page p.places.sound resident)
 
 pub frame_stored : (p : Inside) (page frame : ℕ) → frame_at (pool_shown p) page ≡ Some frame → IsOfStore (pool_places p.places) frame
 frame_stored p page frame there = frame_of_store (pool_places p.places) page frame p.places.sound there
@@ -68,24 +63,15 @@ frame-part pool frame seen below = omega (arith, page_part frame (frame_count po
 pub frame_within : (pool : Pool) (page frame : ℕ) → IsSeen pool → frame_at pool page ≡ Some frame → frame < frame_count pool.page pool.frames
 frame_within pool page frame seen there = seen.below page frame (seen.there page frame there)
 
--- the pool after the page at an index of the resident ones left its frame
+-- the pool after a page left its frame
 pub left-gone :
-    (p : Inside) (index page frame : ℕ) (after : Places) (kept : List ℕ) → index < length p.places.resident.items
-    → page ≡ slice_index p.places.resident.items index → frame_at (pool_shown p) page ≡ Some frame
-    → after ≡ place_left (pool_places p.places) index page frame → kept ≡ paging_after (pool_shown p) page frame
+    (p : Inside) (page frame : ℕ) (after : Places) (kept : List ℕ) → frame_at (pool_shown p) page ≡ Some frame
+    → after ≡ place_left (pool_places p.places) page frame → kept ≡ paging_after (pool_shown p) page frame
     → shown_with after p.bytes p.marked.items kept ≡ gone (pool_shown p) page
-left-gone p index page frame after kept below is there places keeps = grind (arith, nat_tests, removed-taken p.places.resident.items index p.places.sound.placed.pages_apart below, gone-from (pool_shown p) page frame there)
-
--- where no element passes there is none at a place
-position-none : (test : ℕ → Bool) (xs : List ℕ) → length xs ≤ prefix_len (λ x. not (test x)) xs → list_any test xs ≡ false
-position-none test [] all = refl
-position-none test (x ∷ xs) all = grind (arith, nat_tests, position-none test xs)
-
-pub not_resident : (xs : List ℕ) (page : ℕ) → position (λ other. other == page) xs ≡ None → has xs page ≡ false
-not_resident xs page none = grind (arith, nat_tests, position-none)
+left-gone p page frame after kept there places keeps = grind (arith, nat_tests, gone-from (pool_shown p) page frame there)
 
 -- a page that isn't resident has no frame, so it stays out
-pub gone_none : (p : Inside) (page : ℕ) → has p.places.resident.items page ≡ false → gone (pool_shown p) page ≡ pool_shown p
+pub gone_none : (p : Inside) (page : ℕ) → has p.places.resident.order page ≡ false → gone (pool_shown p) page ≡ pool_shown p
 gone_none p page absent = grind (arith, nat_tests)
 
 -- the first that passes, by its index
@@ -101,19 +87,29 @@ find-first test (x ∷ xs) (suc i) below passes before =
 pub find-position : (test : ℕ → Bool) (xs : List ℕ) (i : ℕ) → position test xs ≡ Some i → find test xs ≡ Some (slice_index xs i)
 find-position test xs i is = let told = position-Some test xs i 0 is in find-first test xs i told.0 told.1 told.2
 
--- the page that goes out, by its index
-pub out_some : (p : Inside) (keep : Option ℕ) (index : ℕ) → index_out (pool_places p.places) keep ≡ Some index → page_out (pool_shown p) keep ≡ Some (slice_index p.places.resident.items index)
-out_some p keep index is = grind (arith, nat_tests, find-position)
+-- a page that goes out is resident
+pub out_there : (p : Inside) (keep : Option ℕ) (page : ℕ) → page_out (pool_shown p) keep ≡ Some page → has p.places.resident.order page ≡ true
+out_there p keep page is = out_resident p.places keep page is
 
-pub out_none : (p : Inside) (keep : Option ℕ) → index_out (pool_places p.places) keep ≡ None → page_out (pool_shown p) keep ≡ None
-out_none p keep is = grind (arith, nat_tests, none_room)
+-- the first of all pages leaves, and then the others
+first-page : (xs : List ℕ) (page : ℕ) → find (λ other. not (has (option_to_list None) other)) xs ≡ Some page → (rest : List ℕ) × (xs ≡ page ∷ rest)
+first-page [] page is = absurd (let clash : None ≡ Some page = is in cc)
+first-page (x ∷ rest) page is = (rest, grind (arith, nat_tests, is))
 
-split : (xs : List ℕ) → 0 < length xs → (rest : List ℕ) × (xs ≡ slice_index xs 0 ∷ rest)
-split [] some = absurd (omega arith)
-split (x ∷ rest) some = (rest, refl)
+pub emptied_step :
+    (p : Inside) (page : ℕ) → find (λ other. not (has (option_to_list None) other)) p.places.resident.order ≡ Some page
+    → pool_emptied (gone (pool_shown p) page) ≡ pool_emptied (pool_shown p)
+emptied_step p page is =
+    let split = first-page p.places.resident.order page is in
+    let there = resident-in_frame (pool_places p.places) page p.places.sound in
+    grind (arith, nat_tests, split, there, absent-taken page split.0, p.places.sound.placed.pages_apart)
 
-pub emptied_step : (p : Inside) → 0 < length p.places.resident.items → pool_emptied (gone (pool_shown p) (slice_index p.places.resident.items 0)) ≡ pool_emptied (pool_shown p)
-emptied_step p some = grind (arith, nat_tests, split p.places.resident.items some, resident-in_frame (pool_places p.places) 0 p.places.sound some, removed-taken p.places.resident.items 0 p.places.sound.placed.pages_apart some)
+no-page : (xs : List ℕ) → find (λ other. not (has (option_to_list None) other)) xs ≡ None → xs ≡ []
+no-page [] none = refl
+no-page (x ∷ rest) none = absurd (let clash : Some x ≡ None = none in cc)
+
+pub emptied_none : (p : Inside) → find (λ other. not (has (option_to_list None) other)) p.places.resident.order ≡ None → pool_emptied (pool_shown p) ≡ pool_shown p
+emptied_none p none = ap (λ (xs : List ℕ). fold gone (pool_shown p) xs) (no-page p.places.resident.order none)
 
 -- the lines of a set are lines of a page
 pub lines-below : (set : List ℕ) → IsOfPage set → All (λ line. line < 16) set
@@ -129,13 +125,13 @@ kept-after_by p page frame at marks part kept marked place bytes is = grind (ari
 room-resident :
     (p : Inside) (keep : Option ℕ)
     → (with_room (pool_shown p) keep).resident
-    ≡ (if nat_lt (length p.places.resident.items) p.places.frames then p.places.resident.items else first_out (option_to_list keep) p.places.resident.items)
+    ≡ (if nat_lt (length p.places.resident.order) p.places.frames then p.places.resident.order else first_out (option_to_list keep) p.places.resident.order)
 room-resident p keep =
-    let there = λ (index : ℕ). resident-in_frame (pool_places p.places) index p.places.sound in
-    let taken = λ (index : ℕ). removed-taken p.places.resident.items index p.places.sound.placed.pages_apart in
-    let none = out_none p keep in
-    let some = out_some p keep in
-    grind (arith, nat_tests, none_room p.places keep, index_out_below p.places keep, gone-from (pool_shown p), there, taken, none, some, p.places.resident.ok)
+    let there = λ (page : ℕ). resident-in_frame (pool_places p.places) page p.places.sound in
+    let at = has-at p.places.resident.order in
+    let taken = λ (index : ℕ). removed-taken p.places.resident.order index p.places.sound.placed.pages_apart in
+    let none = not-all-stay keep p.places.resident.order p.places.sound.placed.pages_apart in
+    grind (arith, nat_tests, find-position (λ page. not (has (option_to_list keep) page)) p.places.resident.order, gone-from (pool_shown p), there, at, taken, none, position-Some, p.places.sound.sized.some)
 
 -- a page came in
 pub came-brought :

@@ -1,21 +1,8 @@
 -- What holds of every pool, and stays where a page leaves.
-use Rattle.frame_pool.proofs.Common.{◌+◌, ◌≤◌, ◌==◌, if◌then◌else◌, slice_index_or, slice_set, is_some, length-set, get_or-set_same, get_or-set_other, get_or_past, with_part, with_frame_part, marked_in, is_apart, overlaid, true, false, length-take, length-take-le, length-drop, length-overlaid, page_bytes, has, taken_out, has-filter, IsSeen, frame_count, frame_at, page_at, frame_bytes, paging_after, gone, Pool, nat_tests, ◌≡◌, ℕ, ◌*◌, ◌<◌, List, [], ◌∷◌, length, sym, ◌∙◌, ap, arith, Option, Some, None}
-use Rattle.frame_pool.proofs.SoundLemmas.{page_part}
+use Rattle.frame_pool.proofs.Common.{◌+◌, ◌≤◌, ◌==◌, if◌then◌else◌, slice_index_or, slice_set, is_some, length-set, get_or-set_same, get_or-set_other, get_or_past, with_part, with_frame_part, marked_in, overlaid, length-take, length-take-le, length-drop, length-overlaid, page_bytes, has, taken_out, has-filter, IsSeen, frame_count, frame_at, page_at, frame_bytes, paging_after, gone, Pool, nat_tests, ◌≡◌, ℕ, ◌*◌, ◌<◌, List, [], ◌∷◌, length, sym, ◌∙◌, ap, arith, Option, Some, None}
+use Rattle.frame_pool.proofs.SoundLemmas.{apart-without, page_part, without-fewer}
 use Rattle.frame_pool.proofs.PoolLemmas.{gone-from}
 use Rattle.frame_pool.proofs.LendLemmas.{none-lost}
-
--- a list in which no number stands twice, without some of them
-without-absent : (these xs : List ℕ) (x : ℕ) → has xs x ≡ false → has (taken_out these xs) x ≡ false
-without-absent these xs x absent = grind (arith, nat_tests, has-filter)
-
--- it is no longer
-without-fewer : (these xs : List ℕ) → length (taken_out these xs) ≤ length xs
-without-fewer these [] = omega arith
-without-fewer these (x ∷ xs) = grind (arith, nat_tests, without-fewer these xs)
-
-apart-without : (these xs : List ℕ) → is_apart xs ≡ true → is_apart (taken_out these xs) ≡ true
-apart-without these [] apart = apart
-apart-without these (x ∷ xs) apart = grind (arith, nat_tests, apart-without these xs, without-absent these xs x)
 
 -- a pool whose frames have other bytes
 pub seen-bytes : (pool : Pool) (bytes : List ℕ) → length bytes ≡ length pool.bytes → IsSeen pool → IsSeen (record pool { bytes = bytes })

@@ -1,8 +1,8 @@
 -- A pool's pages agree after a page left its frame, and after one came into a frame; and what such a step needs.
-use Rattle.frame_pool.proofs.Common.{◌≡◌, ℕ, zero, suc, ◌+◌, ◌*◌, ◌<◌, ◌≤◌, Bool, true, false, List, [], ◌∷◌, ◌++◌, length, refl, sym, ◌∙◌, ap, arith, Some, None, ◌==◌, remove, replicate, slice_index, slice_index_or, slice_set, Option, is_some, unwrap_or, range_with_len, cases_eq, nat_tests, length-set, length-append, get_or-set_same, get_or-set_other, length-replicate, get_or-replicate, PageSize, has-range, has, private_frames, frame_count, ArePlacesSound, IsPlaced, IsOfStore, is_apart, length-remove, ◌||◌, not, and_from, or_from, not_from_false, has-append, vec_len, vec_capacity, position, if◌then◌else◌, Result, is_ok, IsOk, IsSome, option_to_list, prefix_len, get_or_read_under, frame_of_page, index_out, pool_places}
+use Rattle.frame_pool.proofs.Common.{has-filter, taken_out, ◌≡◌, ℕ, zero, suc, ◌+◌, ◌*◌, ◌<◌, ◌≤◌, Bool, true, false, List, [], ◌∷◌, ◌++◌, length, refl, sym, ◌∙◌, ap, arith, Some, None, ◌==◌, remove, replicate, slice_index, slice_index_or, slice_set, Option, is_some, unwrap_or, range_with_len, cases_eq, nat_tests, length-set, length-append, get_or-set_same, get_or-set_other, length-replicate, get_or-replicate, PageSize, has-range, has, private_frames, frame_count, ArePlacesSound, IsPlaced, IsOfStore, is_apart, ◌||◌, not, and_from, or_from, not_from_false, has-append, vec_len, vec_capacity, position, if◌then◌else◌, Result, is_ok, IsOk, IsSome, option_to_list, prefix_len, get_or_read_under, frame_of_page, pool_places, find}
 use Rattle.std.proofs.Math.ListN.{get_or-eq_default}
 use Rattle.std.proofs.lemmas.List.FromFn.{length-range_with_len}
-use Rattle.frame_pool.specs.Places.{Places, frame_of_page, place_page, resident_at, frame_of_index, fresh_places, place_left}
+use Rattle.frame_pool.specs.Places.{Places, frame_of_page, goes_out, place_page, fresh_places, place_left}
 use Rattle.frame_pool.specs.declared.frame_places.FramePlaces.{FramePlaces}
 
 -- lists in which no number stands twice, under a push and a removal
@@ -46,33 +46,38 @@ has-at [] i below = absurd (omega arith)
 has-at (x ∷ xs) zero below = grind (arith, nat_tests)
 has-at (x ∷ xs) (suc i) below = grind (arith, nat_tests, has-at xs i)
 
-pub has-remove_none : (xs : List ℕ) (i z : ℕ) → has xs z ≡ false → has (remove xs i) z ≡ false
-has-remove_none [] zero z none = refl
-has-remove_none [] (suc i) z none = refl
-has-remove_none (x ∷ xs) zero z none = grind (arith, nat_tests)
-has-remove_none (x ∷ xs) (suc i) z none = grind (arith, nat_tests, has-remove_none xs i z)
-
 pub has-remove_other : (xs : List ℕ) (i z : ℕ) → (slice_index xs i == z) ≡ false → has (remove xs i) z ≡ has xs z
 has-remove_other [] zero z differ = refl
 has-remove_other [] (suc i) z differ = refl
 has-remove_other (x ∷ xs) zero z differ = sym (ap (λ (b : Bool). b || has xs z) differ)
 has-remove_other (x ∷ xs) (suc i) z differ = ap (λ (b : Bool). (x == z) || b) (has-remove_other xs i z differ)
 
-pub apart-remove : (xs : List ℕ) (i : ℕ) → is_apart xs ≡ true → is_apart (remove xs i) ≡ true
-apart-remove [] zero apart = refl
-apart-remove [] (suc i) apart = refl
-apart-remove (x ∷ xs) zero apart = (first-apart x xs apart).1
-apart-remove (x ∷ xs) (suc i) apart = grind (arith, nat_tests, first-apart x xs apart, has-remove_none xs i x, apart-remove xs i)
+-- a list that lacks a number is as before without it
+pub absent-taken : (x : ℕ) (xs : List ℕ) → has xs x ≡ false → taken_out (x ∷ []) xs ≡ xs
+absent-taken x [] absent = refl
+absent-taken x (y ∷ ys) absent = grind (arith, nat_tests, absent-taken x ys)
+
+-- a list in which no number stands twice, without some of them
+pub without-absent : (these xs : List ℕ) (x : ℕ) → has xs x ≡ false → has (taken_out these xs) x ≡ false
+without-absent these xs x absent = grind (arith, nat_tests, has-filter)
+
+-- it is no longer
+pub without-fewer : (these xs : List ℕ) → length (taken_out these xs) ≤ length xs
+without-fewer these [] = omega arith
+without-fewer these (x ∷ xs) = grind (arith, nat_tests, without-fewer these xs)
+
+pub apart-without : (these xs : List ℕ) → is_apart xs ≡ true → is_apart (taken_out these xs) ≡ true
+apart-without these [] apart = apart
+apart-without these (x ∷ xs) apart = grind (arith, nat_tests, apart-without these xs, without-absent these xs x)
+
+-- without one that is in it, it is one shorter
+pub taken-fewer : (x : ℕ) (xs : List ℕ) → is_apart xs ≡ true → has xs x ≡ true → length (taken_out (x ∷ []) xs) + 1 ≡ length xs
+taken-fewer x [] apart inside = absurd (let clash : false ≡ true = inside in cc)
+taken-fewer x (y ∷ ys) apart inside = grind (arith, nat_tests, first-apart y ys apart, absent-taken x ys, taken-fewer x ys)
 
 -- a number that isn't in a list differs from one that is
 pub differs : (xs : List ℕ) (x z : ℕ) → has xs x ≡ false → has xs z ≡ true → (x == z) ≡ false
 differs xs x z none some = grind (arith, nat_tests)
-
-pub has-removed : (xs : List ℕ) (i : ℕ) → is_apart xs ≡ true → i < length xs → has (remove xs i) (slice_index xs i) ≡ false
-has-removed [] zero apart below = refl
-has-removed [] (suc i) apart below = refl
-has-removed (x ∷ xs) zero apart below = (first-apart x xs apart).0
-has-removed (x ∷ xs) (suc i) apart below = grind (arith, nat_tests, first-apart x xs apart, has-at xs i, has-removed xs i)
 
 -- a page that is somewhere is one of the pages, and a frame one of the frames
 within : (X : Type 0) → (xs : List (Option X)) (i : ℕ) (x : X) → slice_index_or xs i None ≡ Some x → i < length xs
@@ -84,8 +89,8 @@ page-within pages page frame there = within ℕ pages.frame_of page frame there
 differ : (x y : ℕ) → (x ≡ y → ⊥) → (x == y) ≡ false
 differ x y apart = grind (arith, nat_tests)
 
-pub resident-in_frame : (pages : Places) (index : ℕ) → ArePlacesSound pages → index < length pages.resident → frame_of_page pages (resident_at pages index) ≡ Some (frame_of_index pages index)
-resident-in_frame pages index sound below = grind (arith, nat_tests, has-at)
+pub resident-in_frame : (pages : Places) (page : ℕ) → ArePlacesSound pages → has pages.resident page ≡ true → frame_of_page pages page ≡ Some (unwrap_or (frame_of_page pages page) 0)
+resident-in_frame pages page sound inside = grind (arith, nat_tests, sound.placed.resident page, inside)
 
 pub frame_of_store : (pages : Places) (page frame : ℕ) → ArePlacesSound pages → frame_of_page pages page ≡ Some frame → IsOfStore pages frame
 frame_of_store pages page frame sound there = sound.placed.in_use page frame (sound.placed.there page frame there)
@@ -107,20 +112,17 @@ pair-came to from x y inside also free each p f is = grind (arith, nat_tests, ca
 
 -- a page left: its frame is free
 pub sound-left :
-    (pages : Places) (index page frame : ℕ) → ArePlacesSound pages → index < length pages.resident → slice_index pages.resident index ≡ page
-    → frame_of_page pages page ≡ Some frame → ArePlacesSound (place_left pages index page frame)
-sound-left pages index page frame sound below is_page in_frame =
+    (pages : Places) (page frame : ℕ) → ArePlacesSound pages → frame_of_page pages page ≡ Some frame → ArePlacesSound (place_left pages page frame)
+sound-left pages page frame sound in_frame =
     record {
       sized = record { some = sound.sized.some; few = sound.sized.few; page_in = length-set pages.page_in frame None ∙ sound.sized.page_in };
       placed = record {
-        used = omega (arith, length-remove pages.resident index below, length-append pages.free (frame ∷ []), old.used);
-        pages_apart = apart-remove pages.resident index old.pages_apart;
+        used = omega (arith, taken-fewer page pages.resident old.pages_apart inside, length-append pages.free (frame ∷ []), old.used);
+        pages_apart = apart-without (page ∷ []) pages.resident old.pages_apart;
         free_apart = apart-push pages.free frame old.free_apart not_free;
         resident = λ p.
-            let gone = has-removed pages.resident index old.pages_apart below in
-            let other = has-remove_other pages.resident index p in
             let was = old.resident p in
-            grind (arith, nat_tests, gone, other, was, is_page, get_or-set_same pages.frame_of page None None page_inside, get_or-set_other pages.frame_of page p);
+            grind (arith, nat_tests, has-filter, was, get_or-set_same pages.frame_of page None None page_inside, get_or-set_other pages.frame_of page p);
         there = λ p f is. pair-left pages.frame_of pages.page_in page frame page_inside back old.there p f is;
         back = λ p f is. pair-left pages.page_in pages.frame_of frame page frame_inside in_frame (λ f p. old.back p f) f p is;
         in_use = λ p f is.
@@ -134,6 +136,9 @@ sound-left pages index page frame sound below is_page in_frame =
   where
     old : IsPlaced pages
     old = sound.placed
+
+    inside : has pages.resident page ≡ true
+    inside = let was = old.resident page in grind (arith, nat_tests, was, in_frame)
 
     page_inside : page < length pages.frame_of
     page_inside = page-within pages page frame in_frame
@@ -152,13 +157,13 @@ sound-left pages index page frame sound below is_page in_frame =
 
 -- the same where the parts are told apart
 pub sound-left_by :
-    (pages : Places) (index page frame : ℕ) (resident free : List ℕ) (frame_of page_in : List (Option ℕ))
-    → ArePlacesSound pages → index < length pages.resident → slice_index pages.resident index ≡ page → frame_of_page pages page ≡ Some frame
-    → resident ≡ remove pages.resident index → frame_of ≡ slice_set pages.frame_of page None → page_in ≡ slice_set pages.page_in frame None
+    (pages : Places) (page frame : ℕ) (resident free : List ℕ) (frame_of page_in : List (Option ℕ))
+    → ArePlacesSound pages → frame_of_page pages page ≡ Some frame
+    → resident ≡ taken_out (page ∷ []) pages.resident → frame_of ≡ slice_set pages.frame_of page None → page_in ≡ slice_set pages.page_in frame None
     → free ≡ pages.free ++ frame ∷ []
     → ArePlacesSound (record pages { resident = resident; frame_of = frame_of; page_in = page_in; free = free })
-sound-left_by pages index page frame resident free frame_of page_in sound below is_page in_frame e1 e2 e3 e4 =
-    rw (e1, e2, e3, e4) (sound-left pages index page frame sound below is_page in_frame)
+sound-left_by pages page frame resident free frame_of page_in sound in_frame e1 e2 e3 e4 =
+    rw (e1, e2, e3, e4) (sound-left pages page frame sound in_frame)
 
 -- a page came into a free frame
 pub sound-came :
@@ -262,33 +267,27 @@ pub sound-fresh_by :
 sound-fresh_by size frames pages first resident free frame_of page_in some few e0 e1 e2 e3 e4 =
     rw (e1, e2, e3, e4, e0) (sound-fresh size frames pages some few)
 
--- what holds of a page at a place of the resident ones
-pub record Leaves (p : FramePlaces) (index page : ℕ) : Type 0 where
-  pub at : slice_index p.resident.items index ≡ page
-  pub below : index < length p.resident.items
+-- what holds of a resident page
+pub record Leaves (p : FramePlaces) (page : ℕ) : Type 0 where
   pub in_frame : frame_of_page (pool_places p) page ≡ Some (unwrap_or (frame_of_page (pool_places p) page) 0)
   pub inside : page < vec_len p.frame_of
   pub frame : unwrap_or (frame_of_page (pool_places p) page) 0 < vec_len p.page_in
   pub free : vec_len p.free < vec_capacity p.free
 
-pub leaves : (p : FramePlaces) (index page : ℕ) → index < vec_len p.resident → page ≡ slice_index_or p.resident.items index page → Leaves p index page
-leaves p index page index_below read =
-    record { at = sym at; below = below; in_frame = in_frame; inside = omega (arith, inside, p.frame_of.ok.0); frame = frame; free = omega (arith, sound.placed.used, below, p.free_room, p.free.ok.0) }
+pub leaves : (p : FramePlaces) (page : ℕ) → has p.resident.order page ≡ true → Leaves p page
+leaves p page resident =
+    record {
+      in_frame = in_frame;
+      inside = omega (arith, page-within (pool_places p) page (unwrap_or (frame_of_page (pool_places p) page) 0) in_frame, p.frame_of.ok.0);
+      frame = frame;
+      free = omega (arith, sound.placed.used, taken-fewer page p.resident.order sound.placed.pages_apart resident, p.free_room, p.free.ok.0);
+    }
   where
     sound : ArePlacesSound (pool_places p)
     sound = p.sound
 
-    below : index < length p.resident.items
-    below = omega (arith, index_below, p.resident.ok.0)
-
-    at : page ≡ slice_index p.resident.items index
-    at = get_or_read_under p.resident.items index (vec_len p.resident) page 0 read index_below p.resident.ok.0
-
     in_frame : frame_of_page (pool_places p) page ≡ Some (unwrap_or (frame_of_page (pool_places p) page) 0)
-    in_frame = rw at (resident-in_frame (pool_places p) index sound below)
-
-    inside : page < length p.frame_of.items
-    inside = page-within (pool_places p) page (unwrap_or (frame_of_page (pool_places p) page) 0) in_frame
+    in_frame = resident-in_frame (pool_places p) page sound resident
 
     frame : unwrap_or (frame_of_page (pool_places p) page) 0 < vec_len p.page_in
     frame =
@@ -312,8 +311,8 @@ pub popped : (old new : List ℕ) (o : Option ℕ) → old ≡ new ++ option_to_
 popped old new o is some = grind (arith, nat_tests)
 
 -- a frame is free where not all are in use
-pub some-free : (p : FramePlaces) → vec_len p.resident < p.frames → 0 < vec_len p.free
-some-free p room = omega (arith, p.sound.placed.used, p.resident.ok.0, p.free.ok.0)
+pub some-free : (p : FramePlaces) → length p.resident.order < p.frames → 0 < vec_len p.free
+some-free p room = omega (arith, p.sound.placed.used, p.free.ok.0)
 
 pub free-within : (p : FramePlaces) (frame : ℕ) (free : List ℕ) → p.free.items ≡ free ++ frame ∷ [] → frame < vec_len p.page_in
 free-within p frame free split = grind (arith, nat_tests, has-push_last free frame)
@@ -328,13 +327,22 @@ not-all-stay keep [] apart two none = omega arith
 not-all-stay keep (x ∷ []) apart two none = omega arith
 not-all-stay keep (x ∷ y ∷ rest) apart two none = let all = some-goes keep x y rest apart in grind (arith, nat_tests, all)
 
--- where no page goes out a frame is free
-pub none_room : (p : FramePlaces) (keep : Option ℕ) → index_out (pool_places p) keep ≡ None → vec_len p.resident < p.frames
-none_room p keep none = grind (arith, nat_tests, not-all-stay)
+one-goes : (keep : Option ℕ) (xs : List ℕ) → is_apart xs ≡ true → 2 ≤ length xs → find (λ page. not (has (option_to_list keep) page)) xs ≡ None → ⊥
+one-goes keep [] apart two none = omega arith
+one-goes keep (x ∷ []) apart two none = omega arith
+one-goes keep (x ∷ y ∷ rest) apart two none = grind (arith, nat_tests)
 
--- the place of the page that goes out is one of the resident ones
-pub index_out_below : (p : FramePlaces) (keep : Option ℕ) (index : ℕ) → index_out (pool_places p) keep ≡ Some index → index < length p.resident.items
-index_out_below p keep index is = grind (arith, nat_tests)
+-- where no page goes out a frame is free
+pub none_room : (p : FramePlaces) (keep : Option ℕ) → goes_out (pool_places p) keep ≡ None → length p.resident.order < p.frames
+none_room p keep none = grind (arith, nat_tests, one-goes)
+
+-- a page that goes out is resident
+pub find-in : (test : ℕ → Bool) (xs : List ℕ) (page : ℕ) → find test xs ≡ Some page → has xs page ≡ true
+find-in test [] page is = absurd (let clash : None ≡ Some page = is in cc)
+find-in test (x ∷ xs) page is = grind (arith, nat_tests, find-in test xs page, is)
+
+pub out_resident : (p : FramePlaces) (keep : Option ℕ) (page : ℕ) → goes_out (pool_places p) keep ≡ Some page → has p.resident.order page ≡ true
+out_resident p keep page is = grind (arith, nat_tests, find-in (λ other. not (has (option_to_list keep) other)) p.resident.order page)
 
 -- one more number of a range
 pub range_push : (first count : ℕ)

@@ -1,7 +1,10 @@
 pub mod Below
 pub mod Sizes
+pub mod Arrivals
 pub mod Places
 pub mod Sound
+pub mod ArrivalsView
+pub mod LeftView
 pub mod PlacesView
 pub mod Lending
 pub mod Pool

@@ -1,6 +1,7 @@
 -- Which pages are resident, in which frames.
-use Rattle.std.specs.Prelude.{◌≡◌, ℕ, nat_lt, not, if◌then◌else◌, length, position, option_to_list, List, [], ◌∷◌, ◌++◌, remove, replicate, slice_set, slice_index, slice_index_or, Option, Some, None, unwrap_or}
+use Rattle.std.specs.Prelude.{◌≡◌, ℕ, nat_lt, not, if◌then◌else◌, length, find, option_to_list, List, [], ◌∷◌, ◌++◌, replicate, slice_set, slice_index_or, Option, Some, None, unwrap_or}
 use Rattle.frame_pool.specs.Below.{has, PageSize, range_with_len}
+use Rattle.lines.specs.Resident.{taken_out}
 use Rattle.frame_pool.specs.Sizes.{private_frames, frame_count}
 
 -- the resident pages in the order in which they came, the frame of each page, the page of each frame, and the frames of the
@@ -33,31 +34,23 @@ frame_of_page places page = slice_index_or places.frame_of page None
 abbrev pub place_page : Places → ℕ → Option ℕ
 place_page places frame = slice_index_or places.page_in frame None
 
--- the page at an index of the resident ones
-abbrev pub resident_at : Places → ℕ → ℕ
-resident_at places index = slice_index places.resident index
+-- the page that goes out for another: none while a frame is free, else the first that isn't to stay
+abbrev pub goes_out : Places → Option ℕ → Option ℕ
+goes_out places keep =
+    if nat_lt (length places.resident) places.frames then None else find (λ page. not (has (option_to_list keep) page)) places.resident
 
--- and its frame
-abbrev pub frame_of_index : Places → ℕ → ℕ
-frame_of_index places index = unwrap_or (frame_of_page places (resident_at places index)) 0
-
--- the index of the page that goes out for another: none while a frame is free, else that of the first that isn't to stay
-abbrev pub index_out : Places → Option ℕ → Option ℕ
-index_out places keep =
-    if nat_lt (length places.resident) places.frames then None else position (λ page. not (has (option_to_list keep) page)) places.resident
-
--- the page at an index of the resident ones left its frame
-abbrev pub place_left : Places → (index page frame : ℕ) → Places
-place_left places index page frame =
+-- a page left its frame
+abbrev pub place_left : Places → (page frame : ℕ) → Places
+place_left places page frame =
     record places {
-      resident = remove places.resident index;
+      resident = taken_out (page ∷ []) places.resident;
       frame_of = slice_set places.frame_of page None;
       page_in = slice_set places.page_in frame None;
       free = places.free ++ frame ∷ [];
     }
 
-abbrev pub left_at : Places → ℕ → Places
-left_at places index = place_left places index (resident_at places index) (frame_of_index places index)
+abbrev pub page_left : Places → ℕ → Places
+page_left places page = place_left places page (unwrap_or (frame_of_page places page) 0)
 
 -- a page came into a frame that was free
 pub record CameIn (old new : Places) (page frame : ℕ) : Type 0 where

@@ -7,7 +7,7 @@ pool_places pages =
     record {
       page = pages.page;
       frames = pages.frames;
-      resident = pages.resident.items;
+      resident = pages.resident.order;
       frame_of = pages.frame_of.items;
       page_in = pages.page_in.items;
       free = pages.free.items;

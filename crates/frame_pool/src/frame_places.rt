@@ -1,8 +1,9 @@
 // Which pages of a store are resident, and in which frames.
-ghost use Rattle.std.specs.Prelude.{◌≡◌, ◌+◌, ◌<◌, ◌≤◌, ◌^◌, ◌==◌, false, not, length, position, option_to_list, vec_len, vec_capacity, remove, slice_index_or, IfOk, None, replicate};
+ghost use Rattle.std.specs.Prelude.{◌≡◌, ◌+◌, ◌<◌, ◌≤◌, ◌^◌, false, true, length, vec_len, vec_capacity, IfOk, None, replicate};
 ghost use Rattle.frame_pool.specs.Below.{has, range_with_len};
 ghost use Rattle.frame_pool.specs.Sound.{ArePlacesSound};
 
+use super::arrivals::Arrivals;
 use super::sizes::private_frames;
 use lines::PageSize;
 use std::alloc::{AllocError, Global};
@@ -13,12 +14,12 @@ use std::alloc::{AllocError, Global};
 pub struct FramePlaces {
     pub page: PageSize,
     pub frames: u16,
-    pub resident: Vec<u16>,
+    pub resident: Arrivals,
     pub frame_of: Vec<Option<u16>>,
     pub page_in: Vec<Option<u16>>,
     pub free: Vec<u16>,
-    ghost sound: { ArePlacesSound (record { page = page; frames = frames; resident = resident.items; frame_of = frame_of.items; page_in = page_in.items; free = free.items }) },
-    ghost room: { frames ≤ vec_capacity resident },
+    ghost sound: { ArePlacesSound (record { page = page; frames = frames; resident = resident.order; frame_of = frame_of.items; page_in = page_in.items; free = free.items }) },
+    ghost pages: { resident.pages ≡ vec_len frame_of },
     ghost free_room: { frames ≤ vec_capacity free },
 }
 
@@ -43,7 +44,7 @@ fn nothings(alloc: Global, count: u16) -> Result<Vec<Option<u16>>, AllocError>
 }
 
 impl FramePlaces {
-    ghost use Rattle.frame_pool.specs.Places.{CameIn, fresh_places, frame_of_page, place_page, left_at, index_out};
+    ghost use Rattle.frame_pool.specs.Places.{CameIn, fresh_places, frame_of_page, goes_out, place_page, page_left};
     ghost use Rattle.frame_pool.specs.PlacesView.{pool_places};
 
     /// No page is resident.
@@ -56,7 +57,7 @@ impl FramePlaces {
         Ok(FramePlaces {
             page,
             frames,
-            resident: Vec::with_capacity(alloc, usize::from(frames))?,
+            resident: Arrivals::none(alloc, pages)?,
             frame_of: nothings(alloc, pages)?,
             page_in: nothings(alloc, first + frames)?,
             free: frames_from(alloc, first, frames)?,
@@ -79,26 +80,25 @@ impl FramePlaces {
         self.page_in.get(usize::from(frame)).copied().flatten()
     }
 
-    /// The index of the page that goes out for another: none while a frame is free, else that of the first that isn't to
-    /// stay.
+    /// The page that goes out for another: none while a frame is free, else the first that isn't to stay.
     #[inline(always)]
-    pub fn index_out(&self, keep: Option<u16>) -> Option<usize>
-        ensures { result ≡ index_out (pool_places self.now) keep }
+    pub fn goes_out(&self, keep: Option<u16>) -> Option<u16>
+        ensures { result ≡ goes_out (pool_places self.now) keep }
     {
-        if self.resident.len() < usize::from(self.frames) {
+        if self.resident.count() < self.frames {
             None
         } else {
-            first_to_go(&self.resident, keep)
+            self.resident.first_but(keep)
         }
     }
 
-    /// The page at an index of the resident ones leaves its frame.
+    /// A resident page leaves its frame.
     #[inline]
-    pub fn leave(&mut self, index: usize)
-        requires { index < vec_len self.old.resident }
-        ensures { pool_places self.new ≡ left_at (pool_places self.old) index }
+    pub fn leave(&mut self, page: u16)
+        requires { has self.old.resident.order page ≡ true }
+        ensures { pool_places self.new ≡ page_left (pool_places self.old) page }
     {
-        let page = take_out(&mut self.resident, index);
+        self.resident.leave(page);
         let place = usize::from(page);
         let frame = self.frame_of[place].unwrap_or(0);
         self.frame_of[place] = None;
@@ -110,57 +110,14 @@ impl FramePlaces {
     #[inline]
     pub fn come(&mut self, page: u16) -> u16
         requires page { page < vec_len self.old.frame_of }
-        requires absent { has self.old.resident.items page ≡ false }
-        requires room { vec_len self.old.resident < self.old.frames }
+        requires absent { has self.old.resident.order page ≡ false }
+        requires room { length self.old.resident.order < self.old.frames }
         ensures { CameIn (pool_places self.old) (pool_places self.new) page result }
     {
         let frame = self.free.pop().unwrap_or(0);
-        let _ = self.resident.push(page);
+        self.resident.come(page);
         self.frame_of[usize::from(page)] = Some(frame);
         self.page_in[usize::from(frame)] = Some(page);
         frame
-    }
-
-    /// The index of a page among the resident ones.
-    pub fn index_of(&self, page: u16) -> Option<usize>
-        ensures { result ≡ position (λ other. other == page) self.now.resident.items }
-    {
-        self.resident.iter().position(|other| *other == page)
-    }
-}
-
-/// Takes the page at an index out of a list, as `remove` does. The pages behind it are few mostly, and move here one by one.
-#[inline(always)]
-fn take_out(pages: &mut Vec<u16>, index: usize) -> u16
-    requires { index < vec_len pages.old }
-    ensures value { result ≡ slice_index_or pages.old.items index result }
-    ensures items { pages.new.items ≡ remove pages.old.items index }
-    ensures len { vec_len pages.new + 1 ≡ vec_len pages.old }
-    ensures capacity { vec_capacity pages.new ≡ vec_capacity pages.old }
-{
-    let page = pages[index];
-    for place in index + 1..pages.len() {
-        pages[place - 1] = pages[place];
-    }
-    let _ = pages.pop();
-    page
-}
-
-/// The index of the first page that isn't to stay.
-#[inline]
-fn first_to_go(pages: &[u16], keep: Option<u16>) -> Option<usize>
-    ensures { result ≡ position (λ page. not (has (option_to_list keep) page)) pages.now }
-{
-    pages.iter().position(|page| !is_to_stay(keep, *page))
-}
-
-/// Whether a page is to stay.
-#[inline(always)]
-fn is_to_stay(keep: Option<u16>, page: u16) -> bool
-    ensures { result ≡ has (option_to_list keep) page }
-{
-    match keep {
-        Some(stays) => stays == page,
-        None => false,
     }
 }

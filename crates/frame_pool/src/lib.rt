@@ -2,12 +2,14 @@
 //! the frames (docs/MODEL.md).
 #![tactic(auto)]
 
+mod arrivals;
 mod frame_bytes;
 mod frame_places;
 mod pool;
 mod pool_model;
 mod sizes;
 
+pub use arrivals::Resident;
 pub use pool::{FramePool, Slot};
 pub use pool_model::Pool;
 pub use sizes::private_frames;

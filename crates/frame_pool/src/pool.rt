@@ -1,8 +1,9 @@
-ghost use Rattle.std.specs.Prelude.{◌≡◌, ◌+◌, ◌*◌, ◌<◌, ◌≤◌, ◌==◌, if◌then◌else◌, [], false, length, slice_index, vec_len, replicate, is_some, fold, slice_range, IfOk, IfSome};
+ghost use Rattle.std.specs.Prelude.{◌≡◌, ◌+◌, ◌*◌, ◌<◌, ◌≤◌, ◌==◌, if◌then◌else◌, [], false, true, length, vec_len, replicate, is_some, fold, slice_range, IfOk, IfSome};
 ghost use Rattle.frame_pool.specs.Below.{between, has, overlaid, page_bytes, sem};
 ghost use Rattle.frame_pool.specs.Sizes.{private_frames, frame_count, line_place, line_size};
 ghost use Rattle.frame_pool.specs.Pool.{marked_with};
 
+use super::arrivals::Resident;
 use super::frame_bytes::FrameBytes;
 use super::frame_places::FramePlaces;
 use super::sizes::{line_bytes, line_place, page_bytes, page_place, private_frames};
@@ -87,10 +88,10 @@ impl FramePool {
     }
 
     /// The resident pages, in the order in which they came.
-    pub fn resident(&self) -> &[u16]
-        ensures { result.now ≡ self.now.resident }
+    pub fn resident(&self) -> Resident<'_>
+        ensures { result ≡ self.now.resident }
     {
-        &self.places.resident
+        self.places.resident.resident()
     }
 
     /// The frame that a page is in: some frame of the store, exactly where the page is resident.
@@ -115,12 +116,10 @@ impl FramePool {
 
     /// The page that goes out for another: none while a frame is free, else the first that isn't to stay.
     #[inline(always)]
-    #[tactic(auto, using(crate::proofs::PoolLemmas::out_none, std::proofs::lemmas::Bool::Decides::nat_tests))]
     pub fn page_out(&self, keep: Option<u16>) -> Option<u16>
         ensures { result ≡ page_out self.now keep }
     {
-        let index = self.places.index_out(keep)?;
-        Some(self.places.resident[index])
+        self.places.goes_out(keep)
     }
 
     /// Brings in a page that isn't resident. It comes last; where no frame is free, the first page that isn't to stay goes
@@ -143,27 +142,26 @@ impl FramePool {
 
     /// The page that isn't to stay goes out, if no frame is free.
     #[inline(always)]
-    #[tactic(auto, using(crate::proofs::PoolLemmas::out_some, crate::proofs::PoolLemmas::out_none, crate::proofs::SoundLemmas::none_room, std::proofs::lemmas::Bool::Decides::nat_tests))]
+    #[tactic(auto, using(crate::proofs::SoundLemmas::none_room, crate::proofs::PoolLemmas::out_there, std::proofs::lemmas::Bool::Decides::nat_tests))]
     fn make_room(&mut self, keep: Option<u16>) -> Option<u16>
         ensures out { result ≡ page_out self.old keep }
         ensures value { self.new ≡ with_room self.old keep }
         ensures room { length self.new.resident < self.new.frames }
     {
-        match self.places.index_out(keep) {
-            Some(index) => Some(self.leave(index)),
-            None => None,
+        let out = self.places.goes_out(keep);
+        if let Some(page) = out {
+            self.leave(page);
         }
+        out
     }
 
-    /// The page at an index of the resident ones leaves its frame.
+    /// A resident page leaves its frame.
     #[inline(always)]
-    fn leave(&mut self, index: usize) -> u16
-        requires { index < length self.old.resident }
-        ensures page { result ≡ slice_index self.old.resident index }
-        ensures value { self.new ≡ gone self.old (slice_index self.old.resident index) }
+    fn leave(&mut self, page: u16)
+        requires { has self.old.resident page ≡ true }
+        ensures value { self.new ≡ gone self.old page }
         ensures fewer { length self.new.resident + 1 ≡ length self.old.resident }
     {
-        let page = self.places.resident[index];
         let frame = self.places.frame_of(page).unwrap_or(0);
         let size = self.places.page;
         let marks = self.written(page);
@@ -173,8 +171,7 @@ impl FramePool {
             self.bytes.part(page_place(size, frame), page_bytes(size)),
             marks,
         );
-        self.places.leave(index);
-        page
+        self.places.leave(page);
     }
 
     /// Lends a frame, to be filled.
@@ -390,14 +387,14 @@ impl FramePool {
     }
 
     /// A page leaves its frame, if it is in one, and these of its lines are forgotten.
-    #[tactic(auto, using(crate::proofs::PoolLemmas::gone_none, crate::proofs::PoolLemmas::not_resident, std::proofs::lemmas::Bool::Decides::nat_tests))]
+    #[tactic(auto, using(crate::proofs::PoolLemmas::gone_none, std::proofs::lemmas::Bool::Decides::nat_tests))]
     pub fn undo(&mut self, page: u16, lines: LineSet)
         requires { page < length self.old.frame_of }
         ensures { self.new ≡ page_undone self.old page lines }
     {
         self.settle(page, lines);
-        if let Some(index) = self.places.index_of(page) {
-            let _ = self.leave(index);
+        if self.places.frame_of(page).is_some() {
+            self.leave(page);
         }
     }
 
@@ -406,8 +403,8 @@ impl FramePool {
     pub fn empty(&mut self)
         ensures { self.new ≡ pool_emptied self.old }
     {
-        while !self.places.resident.is_empty() {
-            let _ = self.leave(0);
+        while let Some(page) = self.places.resident.first_but(None) {
+            self.leave(page);
         }
     }
 }

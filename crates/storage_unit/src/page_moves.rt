@@ -146,7 +146,7 @@ fn leave_all(pool: &FramePool, table: &mut Table)
     ensures { table.new ≡ record table.old { keys = fold (keys_without pool.now) table.old.keys pool.now.resident } }
 {
     for page in pool.resident() {
-        if let Some(frame) = pool.frame_of(*page) {
+        if let Some(frame) = pool.frame_of(page) {
             table.leave(frame);
         }
     }

@@ -70,7 +70,7 @@ impl Pages<()> for Zeros {
 /// Brings in a page of a store of six, full of zeros, and lets the first seat at some of its lines.
 fn bring(rt: &impl Abort, unit: &mut Unit, page: u16, reads: LineSet, writes: LineSet) -> u16 {
     assert!(rt; unit.directory().pages() == 6 && page < 6);
-    assert!(rt; !unit.pool().resident().contains(&page));
+    assert!(rt; unit.pool().frame_of(page).is_none());
     let Ok(()) = unit.bring_in(&Zeros, &mut (), page, None);
     unit.set_authority(page, Authority::grant(1, reads, writes));
     unit.pool().frame_of(page).expect(rt, "it has come in")
