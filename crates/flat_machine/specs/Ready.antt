@@ -6,7 +6,8 @@ use Rattle.flat_machine.specs.declared.machine.Act.{Act}
 use Rattle.flat_machine.specs.declared.ready.Doing.{Doing}
 use Rattle.flat_machine.specs.declared.ready.Ready.{Ready}
 use Rattle.flat_machine.specs.Plans.{Plan, Does, Work, Put, Signed, Sum, Compare, Want}
-use Rattle.flat_machine.specs.Words.{is_negative, extended, complement, biased, shifted_left, shifted_right, shifted_signed, bit, sum_of, word_difference}
+use Rattle.flat_machine.specs.Status.{is_negative}
+use Rattle.flat_machine.specs.Words.{extended, complement, biased, shifted_left, shifted_right, shifted_signed, bit, sum_of, word_difference}
 use Rattle.flat_machine.specs.Work.{base, loads_byte, loads_half, loads_words, stores_byte, stores_half, stores_words, traps, is_masked, work_of_r}
 use Rattle.flat_machine.specs.Branches.{condition, even, branch_to}
 use Rattle.flat_machine.specs.Effect.{worked}

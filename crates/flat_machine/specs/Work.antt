@@ -5,7 +5,8 @@ use Rattle.flat_machine.specs.Below.{Inst, Op}
 use Rattle.flat_machine.specs.declared.machine.Cs.{Cs}
 use Rattle.flat_machine.specs.declared.machine.Act.{Act}
 use Rattle.flat_machine.specs.Plans.{Work, Put, Signed, Sum, Compare, Want}
-use Rattle.flat_machine.specs.Words.{is_negative, extended, complement, biased, single_bit, shifted_left, shifted_right, shifted_signed, bit, sum_of, word_difference}
+use Rattle.flat_machine.specs.Status.{is_negative}
+use Rattle.flat_machine.specs.Words.{extended, complement, biased, single_bit, shifted_left, shifted_right, shifted_signed, bit, sum_of, word_difference}
 
 -- the value of a base register, where field 0 means zero
 abbrev pub base : List ℕ → ℕ → ℕ

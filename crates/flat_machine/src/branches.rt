@@ -122,11 +122,11 @@ pub fn holds(cs: &Cs, field: u8) -> bool
     ensures { result ≡ condition cs.now field }
 {
     match field {
-        1 => cs.lt,
-        2 => cs.eq,
-        3 => cs.gt,
-        4 => cs.c0,
-        5 => cs.ov,
+        1 => cs.lt(),
+        2 => cs.eq(),
+        3 => cs.gt(),
+        4 => cs.c0(),
+        5 => cs.ov(),
         _ => false,
     }
 }

@@ -12,8 +12,7 @@ ghost use Rattle.flat_machine.specs.Work.{base, half_address, word_address, trap
 
 use super::machine::{Act, Cs};
 use super::words::{
-    add, bias, bit_at, compare, extend, flags, invert, magnitude, shift_left, shift_right,
-    shift_signed, sign_flags, subtract,
+    add, bias, bit_at, extend, invert, magnitude, shift_left, shift_right, shift_signed, subtract,
 };
 use romp_table::Op;
 
@@ -93,8 +92,8 @@ pub fn do_r(op: Op, b: u8, c: u8, regs: &mut [u32; 16], cs: &mut Cs) -> Act
         Op::Sf => sum(b, y, invert(x), 1, regs, cs),
         Op::S => sum(b, x, invert(y), 1, regs, cs),
         Op::A => sum(b, x, y, 0, regs, cs),
-        Op::Ae => sum(b, x, y, carry_of(*cs), regs, cs),
-        Op::Se => sum(b, x, invert(y), carry_of(*cs), regs, cs),
+        Op::Ae => sum(b, x, y, carry_of(cs), regs, cs),
+        Op::Se => sum(b, x, invert(y), carry_of(cs), regs, cs),
         Op::Cl => compare_with(x, y, cs),
         Op::C => compare_with(bias(x), bias(y), cs),
         Op::Tgte => return trap(y <= x),
@@ -155,7 +154,7 @@ pub fn do_d(op: Op, b: u8, c: u8, i: u16, regs: &mut [u32; 16], cs: &mut Cs) -> 
     match op {
         Op::Svc => return call(i, regs),
         Op::Ai => sum(b, y, extend(i), 0, regs, cs),
-        Op::Aei => sum(b, y, extend(i), carry_of(*cs), regs, cs),
+        Op::Aei => sum(b, y, extend(i), carry_of(cs), regs, cs),
         Op::Sfi => sum(b, extend(i), invert(y), 1, regs, cs),
         Op::Cli => compare_with(y, extend(i), cs),
         Op::Ci => compare_with(bias(y), bias(extend(i)), cs),
@@ -199,10 +198,7 @@ pub fn signed(to: u8, value: u32, regs: &mut [u32; 16], cs: &mut Cs)
     ensures status { cs.new ≡ signed_status value cs.old }
 {
     regs[usize::from(to)] = value;
-    let told = sign_flags(value, *cs);
-    cs.lt = told.lt;
-    cs.eq = told.eq;
-    cs.gt = told.gt;
+    cs.tell(value);
 }
 
 /// A register gets the sum of two words and a carry, and the whole status tells of the sum.
@@ -212,18 +208,14 @@ pub fn sum(to: u8, x: u32, y: u32, carry: u32, regs: &mut [u32; 16], cs: &mut Cs
     ensures registers { regs.new ≡ slice_set regs.old to (sum_of x y carry) }
     ensures status { cs.new ≡ sum_status x y carry cs.old }
 {
-    regs[usize::from(to)] = add(x, y, carry);
-    *cs = flags(x, y, carry, *cs);
+    regs[usize::from(to)] = cs.sum(x, y, carry);
 }
 
 /// Less, equal and greater tell how one number stands to another.
 pub fn compare_with(x: u32, y: u32, cs: &mut Cs)
     ensures { cs.new ≡ compared_status x y cs.old }
 {
-    let told = compare(x, y, *cs);
-    cs.lt = told.lt;
-    cs.eq = told.eq;
-    cs.gt = told.gt;
+    cs.compare(x, y);
 }
 
 /// The address of a halfword.
@@ -256,11 +248,11 @@ pub fn masks(mask: u8, x: u32, y: u32) -> bool
 }
 
 /// The carry as a number.
-pub fn carry_of(cs: Cs) -> u32
-    ensures value { result ≡ bit cs.c0 }
+pub fn carry_of(cs: &Cs) -> u32
+    ensures value { result ≡ bit cs.now.c0 }
     ensures small { result ≤ 1 }
 {
-    u32::from(cs.c0)
+    u32::from(cs.c0())
 }
 
 /// The supervisor call with this number.

@@ -12,7 +12,7 @@ use flat_machine::{Act, Cs, Fetch, Pending, do_alone, start_row, start_wanting};
 
 /// A processor: sixteen registers, the condition status, the address of the next instruction, and how many bytes were
 /// printed.
-#[derive(Clone, Copy)]
+#[derive(Drop)]
 pub struct Cpu {
     pub regs: [u32; 16],
     pub cs: Cs,

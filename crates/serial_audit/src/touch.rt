@@ -49,7 +49,7 @@ pub(super) fn next_lines(program: &Program, directory: &Directory, plain: &Plain
     ensures small { IfSome result (λ stretch. stretch.first + stretch.count < 2 ^ 32) }
 {
     let mut regs = plain.regs;
-    let mut cs = plain.cs;
+    let mut cs = plain.cs.again();
     match start_row(plain, &mut regs, &mut cs, plain.iar) {
         Pending::Does {
             act,
