@@ -83,7 +83,8 @@ impl Activations {
     {
         self.is_seat(seat);
         end_written(&self.seats, &mut self.unit, seat, committed);
-        self.unit.clear(seat + 1);
+        let held = self.seats.locks().held_pages(seat);
+        self.unit.clear_among(seat + 1, held);
         self.unit.end(seat);
         self.seats.leave(seat);
     }

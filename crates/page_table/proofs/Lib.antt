@@ -1,5 +1,6 @@
 pub mod Common
 pub mod ClearLemmas
+pub mod EntryLemmas
 pub mod FindLemmas
 pub mod ApartLemmas
 pub mod EnterLemmas

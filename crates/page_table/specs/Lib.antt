@@ -1,6 +1,7 @@
 pub mod Registers
 pub mod Entries
 pub mod Placed
+pub mod PageEntries
 pub mod Keys
 pub mod Chains
 pub mod Buffer

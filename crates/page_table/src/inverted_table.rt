@@ -1,10 +1,11 @@
-ghost use Rattle.std.specs.Prelude.{◌≡◌, ◌<◌, length, map, IfOk, IfSome, None, Some, replicate};
-ghost use Rattle.page_table.specs.Placed.{bare, key_in, look_up, entered, without_frame, entry_at, with_entry, cleared, cleared_entry};
+ghost use Rattle.std.specs.Prelude.{◌≡◌, ◌<◌, length, IfOk, IfSome, None, Some, replicate};
+ghost use Rattle.page_table.specs.Placed.{bare, key_in, look_up, entered, without_frame, entry_at, with_entry, cleared};
 ghost use Rattle.page_table.specs.Keys.{key_of, key_to};
 
 use super::chain::{before, find_along, hash, held_in};
 use super::key::Key;
 use super::lockbit_rules::Authority;
+use super::page_entries::PageEntries;
 use super::segment_regs::Virtual;
 use std::alloc::{AllocError, Global};
 use std::marker::Model;
@@ -16,7 +17,7 @@ pub struct Table {
     anchors: Vec<Option<u16>>,
     next: Vec<Option<u16>>,
     keys: Vec<Option<Key>>,
-    entries: Vec<Authority>,
+    entries: PageEntries,
 }
 
 impl Model for Table {
@@ -25,7 +26,7 @@ impl Model for Table {
 
     ghost Value = { Placed };
 
-    ghost view = { λ table. record { keys = table.keys.items; entries = table.entries.items } };
+    ghost view = { λ table. record { keys = table.keys.items; entries = table.entries } };
 
     ghost invariant = { λ table. IsChained table.anchors.items table.next.items table.keys.items };
 }
@@ -55,7 +56,7 @@ impl Table {
             anchors: no_frames(alloc, anchors)?,
             next: no_frames(alloc, usize::from(frames))?,
             keys: no_keys(alloc, usize::from(frames))?,
-            entries: vec![in alloc; Authority::NOBODY; usize::from(pages)]?,
+            entries: PageEntries::none(alloc, pages)?,
         })
     }
 
@@ -122,7 +123,7 @@ impl Table {
         requires { page < length self.now.entries }
         ensures { result ≡ entry_at self.now page }
     {
-        self.entries[usize::from(page)]
+        self.entries.at(page)
     }
 
     /// Sets the entry of a page of the store.
@@ -131,31 +132,21 @@ impl Table {
         requires { page < length self.old.entries }
         ensures { self.new ≡ with_entry self.old page value }
     {
-        self.entries[usize::from(page)] = value;
+        self.entries.set(page, value);
     }
 
     /// Each entry of an identifier becomes nobody's.
     pub fn clear(&mut self, tid: u8)
         ensures { self.new ≡ cleared self.old tid }
     {
-        clear_all(self.entries.as_mut_slice(), tid);
+        self.entries.clear(tid);
     }
-}
 
-/// Each entry of an identifier becomes nobody's.
-fn clear_all(entries: &mut [Authority], tid: u8)
-    ensures { entries.new ≡ map (cleared_entry tid) entries.old }
-{
-    for entry in entries.iter_mut() {
-        clear_one(entry, tid);
-    }
-}
-
-/// An entry becomes nobody's, if it is the identifier's.
-fn clear_one(entry: &mut Authority, tid: u8)
-    ensures { entry.new ≡ cleared_entry tid entry.old }
-{
-    if entry.tid == tid {
-        *entry = Authority::NOBODY;
+    /// The same. The entries are looked for among these pages first, and among all pages only where some are left: where all
+    /// are among them, no other entry is looked at.
+    pub fn clear_among(&mut self, tid: u8, pages: &[u16])
+        ensures { self.new ≡ cleared self.old tid }
+    {
+        self.entries.clear_among(tid, pages);
     }
 }

@@ -7,6 +7,7 @@ mod inverted_table;
 mod key;
 mod lockbit_rules;
 mod open_lines;
+mod page_entries;
 mod segment_regs;
 mod tlb_model;
 

@@ -97,8 +97,15 @@ impl Unit {
     pub fn clear(&mut self, tid: u8)
         ensures { reach_of self.new ≡ entries_released (reach_of self.old) tid }
     {
+        self.clear_among(tid, &[]);
+    }
+
+    /// The same. The entries are looked for among these pages first, and among all pages only where some are left.
+    pub fn clear_among(&mut self, tid: u8, pages: &[u16])
+        ensures { reach_of self.new ≡ entries_released (reach_of self.old) tid }
+    {
         OpenLines::forget(&mut self.lines);
-        self.table.clear(tid);
+        self.table.clear_among(tid, pages);
     }
 }
 

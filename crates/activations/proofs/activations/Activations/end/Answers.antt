@@ -5,7 +5,7 @@ pub invariant_of-self : goal.invariant_of-self
 invariant_of-self c =
     let a = activity_of c.self.inside in
     let is : record a { seating = c.leave.new.self; reach = reach_of c.end.new.self } ≡ vacated (record a { reach = reach_of c.end_written.new.unit }) c.args.seat =
-    λ i. record a { seating = c.leave.ensures i; reach = (c.end.ensures ∙ ap (λ (r : _). seat_ended r c.args.seat) c.clear.ensures) i } in
+    λ i. record a { seating = c.leave.ensures i; reach = (c.end.ensures ∙ ap (λ (r : _). seat_ended r c.args.seat) c.clear_among.ensures) i } in
     sound-after a c.args.seat (reach_of c.end_written.new.unit) _ is c.end_written.ensures.rest c.self.invariant (taken-of c.self.inside c.self.view_is c.args.seat c.requires.taken)
 
 pub returns : goal.returns
@@ -13,7 +13,7 @@ returns c =
     let a = activity_of c.self.inside in let seat = c.args.seat in
     let pool = (reach_of c.end.new.self).pool in
     let is : record a { seating = c.leave.new.self; reach = reach_of c.end.new.self } ≡ vacated (record a { reach = reach_of c.end_written.new.unit }) seat =
-    λ i. record a { seating = c.leave.ensures i; reach = (c.end.ensures ∙ ap (λ (r : _). seat_ended r seat) c.clear.ensures) i } in
+    λ i. record a { seating = c.leave.ensures i; reach = (c.end.ensures ∙ ap (λ (r : _). seat_ended r seat) c.clear_among.ensures) i } in
     let same : (reach_of c.end_written.new.unit).pool ≡ pool = sym (ap (λ (x : Activity). x.reach.pool) is) in
     let mid = c.end_written.ensures.rest ∙ ap (λ (p : _). record a.reach { pool = p }) same in
     let taken = taken-of c.self.inside c.self.view_is seat c.requires.taken in

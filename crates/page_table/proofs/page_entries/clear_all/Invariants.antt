@@ -1,5 +1,5 @@
 use Rattle.page_table.proofs.Common.{◌≡◌, ◌++◌, take, drop, map, cleared_entry}
-use Rattle.page_table.proofs.inverted_table.clear_all.Given as goal
+use Rattle.page_table.proofs.page_entries.clear_all.Given as goal
 
 -- the entries so far are cleared
 abbrev pub invariant-loop-entry : goal.invariant-loop-entry
