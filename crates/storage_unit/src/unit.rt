@@ -72,7 +72,7 @@ impl Unit {
             directory,
             registers: SegmentRegs::none(page),
             runner: 0,
-            rows: ReadyRows::new(alloc)?,
+            rows: ReadyRows::new(),
             lines: OpenLines::new(),
             used: [0; 16],
         })
