@@ -1,5 +1,5 @@
 -- What a command wants of a disk and of the source.
-use Rattle.std.specs.Prelude.{Bool, true, false}
+use Rattle.std.specs.Prelude.{ℕ}
 use Rattle.console.specs.declared.wants.DiskKind.{DiskKind}
 use Rattle.console.specs.declared.wants.DiskKind.TheVariants.{Looked, Changed, Made, OfTry, Empty}
 use Rattle.console.specs.declared.command_words.Command.{Command}
@@ -20,10 +20,17 @@ disk_for (command.Big transfers) = OfTry
 disk_for command.Audit = Empty
 disk_for (command.Trace activation) = Empty
 
--- whether it reads the source
-abbrev pub reads_for : Command → Bool
-reads_for (command.Show range) = false
-reads_for (command.New header) = false
-reads_for (command.Ship from) = false
-reads_for (command.Big transfers) = false
-reads_for _ = true
+-- how many bytes of the source it reads at most: all that it takes, and one more, by which a longer source is told
+abbrev pub source_for : Command → ℕ
+source_for command.Try = 1048577
+source_for command.Run = 1048577
+source_for command.List = 1048577
+source_for command.Drill = 1048577
+source_for (command.Show range) = 0
+source_for (command.New header) = 0
+source_for (command.Renew bank) = 4194305
+source_for (command.Ship from) = 0
+source_for command.Follow = 1048577
+source_for (command.Big transfers) = 0
+source_for command.Audit = 33554433
+source_for (command.Trace activation) = 33554433

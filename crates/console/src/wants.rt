@@ -1,9 +1,10 @@
 // What the words want of a disk and of the source.
-ghost use Rattle.std.specs.Prelude.{◌≡◌, [], map, false, slice_index_or, string_bytes};
+ghost use Rattle.std.specs.Prelude.{◌≡◌, [], map, slice_index_or, string_bytes};
 ghost use Rattle.console.specs.Words.{IsForm, IsNoForm};
-ghost use Rattle.console.specs.Wants.{disk_for, reads_for};
+ghost use Rattle.console.specs.Wants.{disk_for, source_for};
 
 use super::command_words::{Command, command_of};
+use call_status::{MOST_OF_BUNDLE, MOST_OF_JOB, MOST_OF_STORE};
 
 /// The disk that words want (docs/FORMATS.md, "Words").
 #[derive(Clone, Copy)]
@@ -31,14 +32,15 @@ pub fn disk_of(words: &[String]) -> DiskKind
     }
 }
 
-/// Whether the words read the source, which they don't where they are no command.
-pub fn reads_source(words: &[String]) -> bool
-    ensures asked { (form : Command) → IsForm form words.now → result ≡ reads_for form }
-    ensures none { IsNoForm words.now → result ≡ false }
+/// How many bytes of the source the words read at most: all that they take, and one more, by which a longer source is told. None where they
+/// read nothing, or are no command.
+pub fn reads_source(words: &[String]) -> usize
+    ensures asked { (form : Command) → IsForm form words.now → result ≡ source_for form }
+    ensures none { IsNoForm words.now → result ≡ 0 }
 {
     match command_of(words) {
         Some(command) => reads(&command),
-        None => false,
+        None => 0,
     }
 }
 
@@ -64,11 +66,15 @@ fn kind_for(command: &Command) -> DiskKind
     }
 }
 
-fn reads(command: &Command) -> bool
-    ensures { result ≡ reads_for command.now }
+fn reads(command: &Command) -> usize
+    ensures { result ≡ source_for command.now }
 {
-    !matches!(
-        command,
-        Command::Show(_) | Command::New(_) | Command::Ship(_) | Command::Big(_)
-    )
+    match command {
+        Command::Try | Command::Run | Command::List | Command::Drill | Command::Follow => {
+            MOST_OF_JOB + 1
+        }
+        Command::Renew(_) => MOST_OF_STORE + 1,
+        Command::Audit | Command::Trace(_) => MOST_OF_BUNDLE + 1,
+        Command::Show(_) | Command::New(_) | Command::Ship(_) | Command::Big(_) => 0,
+    }
 }

@@ -1,4 +1,5 @@
 -- From what the console did on an outside to what it did on the file and the screen behind it.
+use Rattle.std.specs.Prelude.{Bool}
 use Rattle.file_runs.proofs.Common.{◌≡◌, inl, inr, ⊎_elim, ℕ, ◌+◌, ◌≤◌, List, [], ◌∷◌, ◌++◌, append_assoc, Torn, written, length, length-append, take, drop, refl, sym, ◌∙◌, ap, subst, arith, suc, Option, Result, Some, IsSome, unwrap_or, Leaves, AsksAndPuts, OnlyAsks, None, Ghosts, All, cond, count_by, false, IsSure, FlatStore, Stands, stands, begun, IsSerial, Given, call, IsFaultAt, TellsStore, Status, SessionState, report, event_lines, Desk, IsRunOf, run, ReportLine, Failed, held_of, Happened, RanJob, Refused, job_desk, names_of, Deed, Wrote, Tore, Synced, Unsynced, file_images_after, file_images_at, file_images_by, deed_writes, bytes_put, printed_of, marks_of, AreBehind, Hands, IsBehind, IsQuiet, IsSeenAt, KeepsFile, LeavesAlways, LeavesAt, LeavesLast, OnlyAsked, RanOnFile, RanOnScreen, FromAnyStore, RunsOnFile, begun_by}
 use Rattle.std.proofs.lemmas.List.{append_cancel_left, nil_from_length, take_all}
 use Rattle.std.proofs.lemmas.List.Elements.{All-nil, All-cons}
@@ -13,6 +14,12 @@ use Rattle.desk_law.proofs.HeadlineLemmas.{start_is_prefix}
 use Rattle.call_status.specs.Printed.{PrintsBy}
 use Rattle.call_status.specs.declared.status.Status.TheVariants as status
 use Rattle.desk.specs.Kept.{KeepsJournal, journal_in}
+use Rattle.outside.specs.Causes.{Rose}
+use Rattle.schedule_replay.specs.Ran.{PrintsEarlier, run_text}
+use Rattle.job_calls.specs.Headline.{job_opening}
+use Rattle.job_calls.specs.Below.{line_text, Open}
+use Rattle.call_status.specs.Statuses.{WentThrough}
+use Rattle.call_status.specs.Opening.{IsStanding}
 use Rattle.outside.specs.Bytes.{AreTold, Prints}
 
 -- nothing was printed before the first put
@@ -140,6 +147,12 @@ module _ {W : Type 0} (G : Ghosts W) (before after : W) (first : List ℕ) (puts
         is_run = subst (λ (bytes : List ℕ). IsRunOf programs ran.job.events.items (desk bytes) taken did.ran.rest) held_is did.ran.is_run;
         order_is = did.ran.order_is ∙ ap (λ (end : Desk). end.order) did.ran.end_is ∙ ap (λ (bytes : List ℕ). (run programs taken (desk bytes)).order) held_is;
         all = did.all;
+        still_open = λ is. sym (ap (λ (end : Desk). end.closed) did.ran.end_is ∙ ap (λ (bytes : List ℕ). (run programs taken (desk bytes)).closed) held_is) ∙ did.still_open is;
+        shut = λ is. sym (ap (λ (end : Desk). end.closed) did.ran.end_is ∙ ap (λ (bytes : List ℕ). (run programs taken (desk bytes)).closed) held_is) ∙ did.shut is;
+        earlier =
+            let text = λ (bytes : List ℕ) (front : List _). line_text (Open number) ++ run_text (job_opening (names_of ran.job) ran.job number bytes store) front in
+            subst (λ (bytes : List ℕ). PrintsEarlier (Some []) (Some (printed_of puts)) (text bytes) taken) held_is
+            (subst (λ (those : Option (List ℕ)). PrintsEarlier (Some []) those (text (held_of G before)) taken) behind.shown (subst (λ (those : Option (List ℕ)). PrintsEarlier those (G.printed after) (text (held_of G before)) taken) behind.none did.earlier));
         serial_run =
             let with_end = subst (λ (end : Desk). IsSerial acts number store order did.ran.lines end.committed end.closed) did.ran.end_is did.ran.serial_run in
             let with_lines = subst (λ (lines : List ReportLine). IsSerial acts number store order lines (run programs taken (desk (held_of G before))).committed (run programs taken (desk (held_of G before))).closed) did.ran.lines_are with_end in
@@ -152,7 +165,7 @@ module _ {W : Type 0} (G : Ghosts W) (before after : W) (first : List ℕ) (puts
             subst (λ (bytes : List ℕ). Prints (Some []) (Some (printed_of puts)) (text bytes) did.put) held_is (printed_so (text (held_of G before)) did.put did.printed);
       }
 
-module _ {W : Type 0} (G : Ghosts W) (before after : W) (first : List ℕ) (deeds puts : List Deed) (behind : AreBehind G before after first deeds puts) where
+module _ {W : Type 0} (G : Ghosts W) (before after : W) (first : List ℕ) (deeds puts : List Deed) (starved : Bool) (behind : AreBehind G before after first deeds puts starved) where
   -- the file's images after so many deeds, and what may have been seen then, are a pair that a crash may have left since the start
   since_start : (done : ℕ) (image seen : List ℕ) → done ≤ length deeds → file_images_at first deeds done image → IsSeenAt puts done seen → G.left_since after (G.moment before) image seen
   since_start done image seen within is_image seen_at =
@@ -210,7 +223,7 @@ module _ {W : Type 0} (G : Ghosts W) (before after : W) (first : List ℕ) (deed
       subst (λ (those : Option (List ℕ)). AreTold those left) held (sure.durable left its.0 its.1)
 
   pub ran_on_file : (given : Given) (order : List (ℕ × ℕ)) (status : Status) (session : Option SessionState) → RanJob G given (call before after order status) session
-      → FromAnyStore first (λ number store. RanOnFile given number store first deeds puts order status)
+      → FromAnyStore first (λ number store. RanOnFile starved given number store first deeds puts order status)
   unfolding ran_on_screen
   ran_on_file given order status session ran number store stood =
       let did = ran.has_run number store (stands_at G before after first puts behind.screen number store stood) in
@@ -229,6 +242,8 @@ module _ {W : Type 0} (G : Ghosts W) (before after : W) (first : List ℕ) (deed
             (λ of_start. start_is_prefix acts number store order image seen (ap stands (behind.screen.left image seen of_start.0) ∙ stood) (subst (λ (those : Option (List ℕ)). AreTold those seen) behind.screen.none of_start.1))
             (λ shown. subst (λ (printed : List ℕ). IsPrefix acts number store order printed image seen) empty shown)
             (did.seen (printed_told G before after first puts behind.screen) image seen was));
+        fine = λ is_calm.
+            did.ran.all_fine (λ rose. absurd (omega (arith, behind.started, behind.calm_disk is_calm, subst (λ (n : ℕ). Rose n (G.disk_faults after)) behind.started rose)));
         journal = λ still image left.
             let open_end : did.ran.end.closed ≡ false = ap (λ (end : Desk). end.closed) did.ran.end_is ∙ ap (λ (bytes : List ℕ). (run programs taken (desk bytes)).closed) held ∙ still in
             let kept = subst (λ (these : List ReportLine). KeepsJournal these (journal_in (held_of G before)) (journal_in (held_of G after))) lines (did.ran.to.journal open_end) in
@@ -241,12 +256,12 @@ module _ {W : Type 0} (G : Ghosts W) (before after : W) (first : List ℕ) (deed
     refused : (end : Status) → Refused G (call before after order end) → OnlyAsked first deeds puts
     refused end is = only_asked is.untouched.asks
 
-    pub run_on_file : (session : Option SessionState) (end : Status) → Happened G given (call before after order end) session → RunsOnFile given first deeds puts order session end
-    run_on_file session status.Done did = ran_on_file given order status.Done session did.by_status
-    run_on_file session status.PutFault did = ran_on_file given order status.PutFault session did.by_status
-    run_on_file (Some session) status.DiskFault did = ran_on_file given order status.DiskFault (Some session) did.by_status
-    run_on_file None status.DiskFault did = only_asked did.by_status.asks
-    run_on_file (Some session) (status.Store offset) did = λ number store stood. did.by_status number store (stands_at G before after first puts behind.screen number store stood)
-    run_on_file None (status.Store offset) did =
+    pub run_on_file : (session : Option SessionState) (end : Status) → (WentThrough end → IsStanding first) → Happened G given (call before after order end) session → RunsOnFile starved given first deeds puts order session end
+    run_on_file session status.Done stood did = (stood tt, ran_on_file given order status.Done session did.by_status)
+    run_on_file session status.PutFault stood did = (stood tt, ran_on_file given order status.PutFault session did.by_status)
+    run_on_file (Some session) status.DiskFault stood did = ran_on_file given order status.DiskFault (Some session) did.by_status
+    run_on_file None status.DiskFault stood did = only_asked did.by_status.asks
+    run_on_file (Some session) (status.Store offset) stood did = λ number store stood. did.by_status number store (stands_at G before after first puts behind.screen number store stood)
+    run_on_file None (status.Store offset) stood did =
         (refused (status.Store offset) did.by_status.refused, subst (λ (bytes : List ℕ). IsFaultAt bytes offset) (held_is G before after first puts behind.screen) (did.by_status.fault (told G before after first puts behind.screen)))
-    run_on_file session end did = refused end did.by_status
+    run_on_file session end stood did = refused end did.by_status

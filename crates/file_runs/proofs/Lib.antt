@@ -3,3 +3,4 @@ mod ScreenLemmas
 mod StoreLemmas
 mod WordLemmas
 pub mod Common
+mod NeedLemmas

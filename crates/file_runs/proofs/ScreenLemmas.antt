@@ -113,6 +113,7 @@ module _ {W : Type 0} (G : Ghosts W) (before after : W) (first : List ℕ) (puts
           pairs = did.pairs;
           stops = did.stops;
           enough = subst (λ (n : ℕ). min 256 (2 * n) ≤ length did.pairs) is did.enough;
+          all = did.all;
           printed = subst (λ (n : ℕ). Prints (Some []) (Some (printed_of puts)) (stop_lines 1 did.pairs ++ last_line (length did.pairs) n) put) is (printed_so G before after first puts behind _ put did.puts.printed);
         }
 

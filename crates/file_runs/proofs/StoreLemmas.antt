@@ -1,4 +1,5 @@
 -- From what the words on a store did on an outside to what they did on the file and the screen behind it.
+use Rattle.std.specs.Prelude.{Bool}
 use Rattle.file_runs.proofs.Common.{◌≡◌, ◌⊎◌, ℕ, ◌<◌, List, [], length, ap, sym, ◌∙◌, subst, IsSome, Torn, held_of, Ghosts, Given, call, Status, IsNoStore, IsStored, Written, WrittenBy, Deed, AreBehind, LeavesLast, inl, inr, ⊎_elim, stands, IsFaultAt, printed_of, arith, AreTold, Option, Some, IsSure, OnlyAsks, FlatStore, Standing, Stands, FromAnyStore}
 use Rattle.call_status.specs.declared.status.Status.TheVariants as status
 use Rattle.store_calls.specs.Renewed.{IsRenewed, Renewed}
@@ -16,7 +17,7 @@ use Rattle.standby.proofs.TellLemmas.{at_some}
 use Rattle.standby.specs.FollowCalled.{EndsOn, FollowedFrom, FollowsOn, IsDue, IsUncommitted, OnStore}
 use Rattle.file_runs.specs.FileFollowed.{EndsAt, FollowedOnFile, FollowedText, FollowsBy, IsAfter, IsDueAt}
 
-module _ {W : Type 0} (G : Ghosts W) (before after : W) (first : List ℕ) (deeds puts : List Deed) (behind : AreBehind G before after first deeds puts) where
+module _ {W : Type 0} (G : Ghosts W) (before after : W) (first : List ℕ) (deeds puts : List Deed) (starved : Bool) (behind : AreBehind G before after first deeds puts starved) where
   has_told : IsSome (G.held before)
   has_told = told G before after first puts behind.screen
 
@@ -28,23 +29,23 @@ module _ {W : Type 0} (G : Ghosts W) (before after : W) (first : List ℕ) (deed
     empty its = sym same ∙ its.empty has_told
 
     stored : IsStored G image before after → LeavesLast first deeds (λ left. left ≡ image)
-    stored its = sure_last G before after first deeds puts behind image (its.held has_told) (its.sure behind.screen.honest has_told)
+    stored its = sure_last G before after first deeds puts starved behind image (its.held has_told) (its.sure behind.screen.honest has_told)
 
     writes_by : (end : Status) → WrittenBy G image line before after end → WritesBy image line first deeds puts end
     writes_by status.Done did = (empty did.0, stored did.0, handed G before after first puts behind.screen line status.Done did.1)
     writes_by status.PutFault did = (empty did.0, stored did.0, handed G before after first puts behind.screen line status.PutFault did.1)
     writes_by status.DiskFault did = unprinted G before after first puts behind.screen did.0
-    writes_by status.Exists did = (subst (λ (bytes : List ℕ). 0 < length bytes) same (did.1 has_told), only_asked G before after first deeds puts behind did.0)
-    writes_by status.NoMemory did = only_asked G before after first deeds puts behind did
+    writes_by status.Exists did = (subst (λ (bytes : List ℕ). 0 < length bytes) same (did.1 has_told), only_asked G before after first deeds puts starved behind did.0)
+    writes_by status.NoMemory did = only_asked G before after first deeds puts starved behind did
     writes_by _ did = did
 
     pub write_on_file : (order : List (ℕ × ℕ)) (end : Status) → Written G image line (call before after order end) → WrittenOnFile image line first deeds puts end
     write_on_file order end did = record {
-      whole = λ none. leaves_always G before after first deeds puts behind (λ left. IsNoStore left ⊎ (left ≡ image)) (did.whole behind.screen.honest has_told (λ left seen was. behind.screen.left left seen was ∙ none));
-      torn = leaves_always G before after first deeds puts behind (λ left. Torn 0 (length image) first left) (λ left seen was.
+      whole = λ none. leaves_always G before after first deeds puts starved behind (λ left. IsNoStore left ⊎ (left ≡ image)) (did.whole behind.screen.honest has_told (λ left seen was. behind.screen.left left seen was ∙ none));
+      torn = leaves_always G before after first deeds puts starved behind (λ left. Torn 0 (length image) first left) (λ left seen was.
           let its = did.crash behind.screen.honest has_told left seen was in
           subst (λ (start : List ℕ). Torn 0 (length image) start left) (behind.screen.left its.0 its.1 its.2) its.3);
-      full = λ some. only_asked G before after first deeds puts behind (did.full has_told (subst (λ (bytes : List ℕ). 0 < length bytes) (sym same) some));
+      full = λ some. only_asked G before after first deeds puts starved behind (did.full has_told (subst (λ (bytes : List ℕ). 0 < length bytes) (sym same) some));
       by_end = writes_by end did.by_status;
     }
 
@@ -61,10 +62,10 @@ module _ {W : Type 0} (G : Ghosts W) (before after : W) (first : List ℕ) (deed
     }
 
     pub renew_on_file : (end : Status) → Renewed G bank given (call before after order end) → RenewedOnFile bank given first deeds puts end
-    renew_on_file status.SourceFault did = let none = nothing G before after first deeds puts behind did.by_status.0 in (none.0, none.1, did.by_status.1)
-    renew_on_file status.TooBig did = let none = nothing G before after first deeds puts behind did.by_status.0 in (none.0, none.1, did.by_status.1)
-    renew_on_file (status.Store offset) did = let none = nothing G before after first deeds puts behind did.by_status.0 in (none.0, none.1, did.by_status.1)
-    renew_on_file status.NoMemory did = only_asked G before after first deeds puts behind did.by_status
+    renew_on_file status.SourceFault did = let none = nothing G before after first deeds puts starved behind did.by_status.0 in (none.0, none.1, did.by_status.1)
+    renew_on_file status.TooBig did = let none = nothing G before after first deeds puts starved behind did.by_status.0 in (none.0, none.1, did.by_status.1)
+    renew_on_file (status.Store offset) did = let none = nothing G before after first deeds puts starved behind did.by_status.0 in (none.0, none.1, did.by_status.1)
+    renew_on_file status.NoMemory did = only_asked G before after first deeds puts starved behind did.by_status
     renew_on_file end did = widened end did.by_status
 
   none : G.printed after ≡ G.printed before → printed_of puts ≡ []
@@ -101,7 +102,7 @@ module _ {W : Type 0} (G : Ghosts W) (before after : W) (first : List ℕ) (deed
     shows_by order _ did = did.by_status
 
     pub show_on_file : (order : List (ℕ × ℕ)) (end : Status) → RangeShown G range (call before after order end) → ShownOnFile range first deeds puts end
-    show_on_file order end did = record { keeps = keeps G before after first deeds puts behind did.only; shows = shows_by order end did }
+    show_on_file order end did = record { keeps = keeps G before after first deeds puts starved behind did.only; shows = shows_by order end did }
 
   module _ (from : ℕ) where
     records : (end : Status) → (IsSome (G.held before) → PutsText G from before after end) → HandsRecords from first puts end
@@ -132,11 +133,11 @@ module _ {W : Type 0} (G : Ghosts W) (before after : W) (first : List ℕ) (deed
     ships_by order _ did = did.by_status
 
     pub ship_on_file : (order : List (ℕ × ℕ)) (end : Status) → ShippedFrom G from (call before after order end) → ShippedOnFile from first deeds puts end
-    ship_on_file order end did = record { keeps = keeps G before after first deeds puts behind did.only; ships = ships_by order end did }
+    ship_on_file order end did = record { keeps = keeps G before after first deeds puts starved behind did.only; ships = ships_by order end did }
 
   -- what the bytes that are sure stand for, all that the deeds leave stands for
   stand_last : (stood : Standing) → IsSure G after → stands (held_of G after) ≡ stood → LeavesLast first deeds (λ image. stands image ≡ stood)
-  stand_last stood sure are left is_left = ap stands (sure_now G before after first deeds puts behind sure left is_left) ∙ are
+  stand_last stood sure are left is_left = ap stands (sure_now G before after first deeds puts starved behind sure left is_left) ∙ are
 
   module _ (content : ShipContent) where
     -- the bytes that the file gave stand for the start
@@ -153,7 +154,7 @@ module _ {W : Type 0} (G : Ghosts W) (before after : W) (first : List ℕ) (deed
         let is : Some (printed_of puts) ≡ Some (kept_text number did.0.count) = printed_so G before after first puts behind.screen (kept_text number did.0.count) well did.0.printed in
         (did.0.count, cc, λ left is_left. let its = behind.now left is_left in did.0.left left its.0 its.1)
     ends_at number store status.DiskFault stood (inr asks) =
-        let asked = only_asked G before after first deeds puts behind asks in
+        let asked = only_asked G before after first deeds puts starved behind asks in
         (0, ap printed_of asked.unput, λ left is_left. (0, omega arith, omega arith, at_start number store left stood (asked.keeps.kept (length deeds) left (omega arith) is_left)))
     ends_at number store _ stood did = tt
 
@@ -162,7 +163,7 @@ module _ {W : Type 0} (G : Ghosts W) (before after : W) (first : List ℕ) (deed
         let its = did number store (stands_at G before after first puts behind.screen number store stood) in
         let records = due content number in
         record {
-          crash = leaves_at G before after first deeds puts behind (IsAtNumber content.line_bytes number store records (Some [])) (λ image seen was.
+          crash = leaves_at G before after first deeds puts starved behind (IsAtNumber content.line_bytes number store records (Some [])) (λ image seen was.
               ⊎_elim
               (λ of_start. at_some content.line_bytes number store records (Some []) 0 image seen (omega arith) (at_start number store image stood (behind.screen.left image seen of_start.0))
               (subst (λ (those : Option (List ℕ)). AreTold those seen) behind.screen.none of_start.1))
@@ -182,17 +183,17 @@ module _ {W : Type 0} (G : Ghosts W) (before after : W) (first : List ℕ) (deed
     follows_by status.Done refused did = (is_due status.Done did.0, follows_on status.Done did.1)
     follows_by status.PutFault refused did = (is_due status.PutFault did.0, follows_on status.PutFault did.1)
     follows_by status.DiskFault refused did =
-        (⊎_elim (λ asks. inl (only_asked G before after first deeds puts behind asks)) (λ has. inr (is_due status.DiskFault has)) did.0, follows_on status.DiskFault did.1)
-    follows_by (status.Stream place kind) refused did = (only_asked G before after first deeds puts behind (refused tt), did.0, is_due (status.Stream place kind) did.1)
-    follows_by (status.NotKept start last) refused did = (only_asked G before after first deeds puts behind (refused tt), is_due (status.NotKept start last) did)
-    follows_by (status.Store offset) refused did = (only_asked G before after first deeds puts behind (refused tt), subst (λ (bytes : List ℕ). IsFaultAt bytes offset) same (did has_told))
-    follows_by status.NoMemory refused did = only_asked G before after first deeds puts behind (refused tt)
+        (⊎_elim (λ asks. inl (only_asked G before after first deeds puts starved behind asks)) (λ has. inr (is_due status.DiskFault has)) did.0, follows_on status.DiskFault did.1)
+    follows_by (status.Stream place kind) refused did = (only_asked G before after first deeds puts starved behind (refused tt), did.0, is_due (status.Stream place kind) did.1)
+    follows_by (status.NotKept start last) refused did = (only_asked G before after first deeds puts starved behind (refused tt), is_due (status.NotKept start last) did)
+    follows_by (status.Store offset) refused did = (only_asked G before after first deeds puts starved behind (refused tt), subst (λ (bytes : List ℕ). IsFaultAt bytes offset) same (did has_told))
+    follows_by status.NoMemory refused did = only_asked G before after first deeds puts starved behind (refused tt)
     follows_by _ refused did = did
 
   pub follow_on_file : (given : Given) (order : List (ℕ × ℕ)) (end : Status) → FollowedFrom G given (call before after order end) → FollowedOnFile given first deeds puts end
   follow_on_file given order end did =
       ⊎_elim
-      (λ none. let asked = nothing G before after first deeds puts behind none.0 in inl (asked.0, asked.1, none.1))
+      (λ none. let asked = nothing G before after first deeds puts starved behind none.0 in inl (asked.0, asked.1, none.1))
       (λ has. inr (has.0, has.1, follows_by has.0 end did.refused has.2))
       did.by_status
 

@@ -1,5 +1,8 @@
 -- From what each word did on an outside to what it did on the file and the screen behind it.
-use Rattle.file_runs.proofs.Common.{◌≡◌, ℕ, List, Ghosts, Given, new_line, Deed, AreBehind, IsBehind, DidOnFile, IsOnFile, DidOnScreen}
+use Rattle.call_status.specs.Statuses.{WentThrough}
+use Rattle.call_status.specs.Opening.{IsStanding}
+use Rattle.std.specs.Prelude.{Bool}
+use Rattle.file_runs.proofs.Common.{◌≡◌, refl, ℕ, List, Ghosts, Given, new_line, Deed, AreBehind, IsBehind, DidOnFile, IsOnFile, DidOnScreen}
 use Rattle.desk.specs.Answers.{order_told}
 use Rattle.job_calls.specs.declared.ended.Ended.{Ended}
 use Rattle.console.specs.Did.{Does}
@@ -20,15 +23,15 @@ same_origin G (command.Renew bank) source before after ended on_file did = renew
 same_origin G command.Follow source before after ended on_file did = did.time.later.origin
 same_origin G _ source before after ended on_file did = absurd on_file
 
-module _ {W : Type 0} (G : Ghosts W) (before after : W) (first : List ℕ) (deeds puts : List Deed) (behind : AreBehind G before after first deeds puts) (source : Given) (ended : Ended) where
-  pub did_on_file : (form : Command) → Does G form source before after ended → DidOnFile form source first deeds puts ended
-  did_on_file command.Run did = run_on_file G before after first deeds puts behind source (order_told ended.order.items) ended.session ended.status did
-  did_on_file (command.Show range) did = show_on_file G before after first deeds puts behind range (order_told ended.order.items) ended.status did
-  did_on_file (command.Ship from) did = ship_on_file G before after first deeds puts behind from (order_told ended.order.items) ended.status did
-  did_on_file (command.New header) did = write_on_file G before after first deeds puts behind (fresh header) (new_line header) (order_told ended.order.items) ended.status did
-  did_on_file (command.Renew bank) did = renew_on_file G before after first deeds puts behind bank source (order_told ended.order.items) ended.status did
-  did_on_file command.Follow did = follow_on_file G before after first deeds puts behind source (order_told ended.order.items) ended.status did
-  did_on_file _ did = tt
+module _ {W : Type 0} (G : Ghosts W) (before after : W) (first : List ℕ) (deeds puts : List Deed) (starved : Bool) (behind : AreBehind G before after first deeds puts starved) (source : Given) (ended : Ended) where
+  pub did_on_file : (form : Command) → (form ≡ command.Run → WentThrough ended.status → IsStanding first) → Does G form source before after ended → DidOnFile starved form source first deeds puts ended
+  did_on_file command.Run stood did = run_on_file G before after first deeds puts starved behind source (order_told ended.order.items) ended.session ended.status (stood refl) did
+  did_on_file (command.Show range) stood did = show_on_file G before after first deeds puts starved behind range (order_told ended.order.items) ended.status did
+  did_on_file (command.Ship from) stood did = ship_on_file G before after first deeds puts starved behind from (order_told ended.order.items) ended.status did
+  did_on_file (command.New header) stood did = write_on_file G before after first deeds puts starved behind (fresh header) (new_line header) (order_told ended.order.items) ended.status did
+  did_on_file (command.Renew bank) stood did = renew_on_file G before after first deeds puts starved behind bank source (order_told ended.order.items) ended.status did
+  did_on_file command.Follow stood did = follow_on_file G before after first deeds puts starved behind source (order_told ended.order.items) ended.status did
+  did_on_file _ stood did = tt
 
 module _ {W : Type 0} (G : Ghosts W) (before after : W) (first : List ℕ) (puts : List Deed) (behind : IsBehind G before after first puts) (source : Given) (ended : Ended) where
   pub did_on_screen : (form : Command) → Does G form source before after ended → DidOnScreen form source first puts ended

@@ -1,9 +1,15 @@
 -- What a run left of a file and a screen, in the words of what was asked of them.
-use Rattle.std.specs.Prelude.{◌≡◌, ℕ, ◌+◌, ◌≤◌, false, List, [], length, take, count_by, All, Option, None, Some, Result, Ok, IsTrue}
+use Rattle.std.specs.Prelude.{◌≡◌, ℕ, ◌+◌, ◌≤◌, ◌++◌, Bool, true, false, List, [], length, take, count_by, All, Option, None, Some, Result, Ok, IsTrue}
 use Rattle.file_runs.specs.Below.{begun, ByOpening, content_of, Deed, Event, event_lines, Failed, FlatStore, Given, file_images_at, deed_writes, IsFaultAt, IsRunOf, IsSerial, IsWholeText, Job, job_desk, job_of, marks_of, names_of, printed_of, Prints, put_by, report, run, SessionState, Stands, stands, Status, Synced, Tore, Unsynced, DiskWord, Wrote}
 use Rattle.outside.specs.declared.world.Outside.{Ghosts}
+use Rattle.desk.specs.Run.{faulted}
+use Rattle.schedule_replay.specs.Ran.{PrintsEarlier, run_text}
+use Rattle.job_calls.specs.Headline.{job_opening}
+use Rattle.job_calls.specs.Below.{line_text, Open}
+use Rattle.call_status.specs.Opening.{IsStanding}
 use Rattle.outside.specs.Clock.{shown_by}
 use Rattle.real_files.specs.Shown.{LeftBy}
+use Rattle.real_files.specs.Deeds.{deed_failed}
 use Rattle.outside.specs.Moments.{Moment}
 use Rattle.outside.specs.Runs.{Leaves}
 use Rattle.desk.specs.Kept.{KeepsJournal, journal_in}
@@ -64,6 +70,10 @@ pub record RanOnScreen (given : Given) (number : ℕ) (store : FlatStore) (first
   pub is_run : IsRunOf job.programs.items job.events.items (job_desk job first store) taken rest
   pub order_is : order ≡ (run job.programs.items taken (job_desk job first store)).order
   pub all : end ≡ status.Done → rest ≡ []
+  -- at Done the desk is open, a disk fault closed it, and no event began behind a failed put
+  pub still_open : end ≡ status.Done → (run job.programs.items taken (job_desk job first store)).closed ≡ false
+  pub shut : end ≡ status.DiskFault → (run job.programs.items taken (job_desk job first store)).closed ≡ true
+  pub earlier : PrintsEarlier (Some []) (Some (printed_of puts)) (λ front. line_text (Open number) ++ run_text (job_opening (names_of job) job number first store) front) taken
   -- they are those of the job's activations, one after another on the opening store, and so are the commit lines
   pub serial_run : IsSerial (begun job.programs.items job.events.items) number store order (event_lines (names_of job) job.programs.items number taken (job_desk job first store))
       (run job.programs.items taken (job_desk job first store)).committed (run job.programs.items taken (job_desk job first store)).closed
@@ -72,11 +82,17 @@ pub record RanOnScreen (given : Given) (number : ℕ) (store : FlatStore) (first
   pub put_is : put_by end put
   pub printed : Prints (Some []) (Some (printed_of puts)) (report (names_of job) job.programs.items number taken rest (job_desk job first store)) put
 
+-- no call on the file failed, and no write for want of memory
+abbrev pub IsCalm : List Deed → Bool → Type 0
+IsCalm deeds starved = (starved ≡ false) × (count_by deed_failed deeds ≡ 0)
+
 -- A job was run so on a file that gave these bytes.
-pub record RanOnFile (given : Given) (number : ℕ) (store : FlatStore) (first : List ℕ) (deeds puts : List Deed) (order : List (ℕ × ℕ)) (end : Status) : Type 0 where
+pub record RanOnFile (starved : Bool) (given : Given) (number : ℕ) (store : FlatStore) (first : List ℕ) (deeds puts : List Deed) (order : List (ℕ × ℕ)) (end : Status) : Type 0 where
   pub ran : RanOnScreen given number store first puts order end
   -- the machine may stop after any number of the deeds: each image that these may leave stands for the first commits: those that were seen or one more
   pub crash : LeavesAt first deeds puts (IsPrefix (begun ran.job.programs.items ran.job.events.items) number store order [])
+  -- where no call on the file failed, and memory was there for what was written past its end, no event was told otherwise, and the desk is open
+  pub fine : IsCalm deeds starved → faulted ran.taken ≡ 0
   -- while the desk is open at the end, what all deeds leave has the journal that the lines of the events make of the one before
   pub journal : (run ran.job.programs.items ran.taken (job_desk ran.job first store)).closed ≡ false
       → LeavesLast first deeds (λ image. KeepsJournal (event_lines (names_of ran.job) ran.job.programs.items number ran.taken (job_desk ran.job first store)) (journal_in first) (journal_in image))
@@ -90,13 +106,13 @@ abbrev pub StandsForNone : List ℕ → Type 0
 StandsForNone first = FromAnyStore first (λ number store. ⊥)
 
 -- What `run` did, by its end: the job was run, or no event was, and the file was only asked; an event may end in a disk fault, and so may the opening.
-abbrev pub RunsOnFile : Given → (first : List ℕ) (deeds puts : List Deed) (order : List (ℕ × ℕ)) → Option SessionState → (end : Status) → Type 0
-RunsOnFile given first deeds puts order session status.Done = FromAnyStore first (λ number store. RanOnFile given number store first deeds puts order status.Done)
-RunsOnFile given first deeds puts order session status.PutFault = FromAnyStore first (λ number store. RanOnFile given number store first deeds puts order status.PutFault)
-RunsOnFile given first deeds puts order session status.DiskFault =
-    ByOpening session (FromAnyStore first (λ number store. RanOnFile given number store first deeds puts order status.DiskFault)) (OnlyAsked first deeds puts)
-RunsOnFile given first deeds puts order session (status.Store offset) = ByOpening session (StandsForNone first) (OnlyAsked first deeds puts × IsFaultAt first offset)
-RunsOnFile given first deeds puts order session _ = OnlyAsked first deeds puts
+abbrev pub RunsOnFile : (starved : Bool) → Given → (first : List ℕ) (deeds puts : List Deed) (order : List (ℕ × ℕ)) → Option SessionState → (end : Status) → Type 0
+RunsOnFile starved given first deeds puts order session status.Done = IsStanding first × FromAnyStore first (λ number store. RanOnFile starved given number store first deeds puts order status.Done)
+RunsOnFile starved given first deeds puts order session status.PutFault = IsStanding first × FromAnyStore first (λ number store. RanOnFile starved given number store first deeds puts order status.PutFault)
+RunsOnFile starved given first deeds puts order session status.DiskFault =
+    ByOpening session (FromAnyStore first (λ number store. RanOnFile starved given number store first deeds puts order status.DiskFault)) (OnlyAsked first deeds puts)
+RunsOnFile starved given first deeds puts order session (status.Store offset) = ByOpening session (StandsForNone first) (OnlyAsked first deeds puts × IsFaultAt first offset)
+RunsOnFile starved given first deeds puts order session _ = OnlyAsked first deeds puts
 
 -- the moment of a file that gave these bytes and of a screen, before anything was asked of them
 abbrev pub begun_by : List ℕ → Moment
@@ -113,7 +129,9 @@ pub record IsBehind {W : Type 0} (G : Ghosts W) (before after : W) (first : List
   pub count : (G.moment after).puts ≡ length puts
 
 -- An outside is a file that gave these bytes and a screen, of which nothing was asked yet, and after its calls these are the deeds and the puts.
-pub record AreBehind {W : Type 0} (G : Ghosts W) (before after : W) (first : List ℕ) (deeds puts : List Deed) : Type 0 where
+pub record AreBehind {W : Type 0} (G : Ghosts W) (before after : W) (first : List ℕ) (deeds puts : List Deed) (starved : Bool) : Type 0 where
+  pub started : G.disk_faults before ≡ 0
+  pub calm_disk : IsCalm deeds starved → G.disk_faults after ≡ 0
   pub screen : IsBehind G before after first puts
   pub moment : G.moment before ≡ begun_by first
   pub calls : (G.moment after).calls ≡ length deeds

@@ -5,3 +5,4 @@ pub mod FileRun
 pub mod FileShown
 pub mod FileWords
 pub mod ScreenWords
+pub mod FileNeeds

@@ -1,5 +1,5 @@
 -- What the words without a file handed to the screen: their disk is one in memory.
-use Rattle.std.specs.Prelude.{◌≡◌, ◌⊎◌, ◌++◌, ◌*◌, ◌≤◌, ℕ, List, [], min, length, Option, Some, Result, Ok}
+use Rattle.std.specs.Prelude.{◌≡◌, ◌⊎◌, ◌++◌, ◌*◌, ◌+◌, ◌<◌, ◌≤◌, ℕ, List, [], min, length, Option, Some, Result, Ok}
 use Rattle.file_runs.specs.Below.{begun, ByOpening, Command, content_of, Deed, Ended, Event, event_lines, Failed, FlatStore, Given, IsFaultAt, IsRunOf, IsSerial, IsWholeText, Job, job_desk, job_of, order_told, printed_of, Prints, run, serial_lines, SessionState, Status, DiskWord}
 use Rattle.job_text.specs.Big.{IsBigJob}
 use Rattle.job_text.specs.Grammar.{Content}
@@ -10,7 +10,7 @@ use Rattle.job_calls.specs.Big.{last_out, line_for}
 use Rattle.store_calls.specs.Audited.{IsChecked, IsUnchecked, verdict_line}
 use Rattle.store_calls.specs.Bundled.{WithBundle}
 use Rattle.store_calls.specs.Traced.{IsTraced, IsUntraced, trace_lines}
-use Rattle.drills.specs.Drilled.{AreStops, broken, last_line, stop_lines, try_order, well}
+use Rattle.drills.specs.Drilled.{AreStops, IsPast, broken, last_line, stop_lines, try_order, well}
 use Rattle.drills.specs.declared.drill.StopPair.{StopPair}
 use Rattle.console.specs.Listed.{listings_of}
 use Rattle.console.specs.declared.command_words.Command.TheVariants as command
@@ -112,6 +112,7 @@ pub record HandsDrill (job : Job) (puts : List Deed) (put : Result (Unit {0}) Fa
   pub pairs : List StopPair
   pub stops : AreStops job pairs
   pub enough : min 256 (2 * length (try_order job)) ≤ length pairs
+  pub all : length pairs < 256 → IsPast job (length pairs + 1)
   pub printed : Prints (Some []) (Some (printed_of puts)) (stop_lines 1 pairs ++ last_line (length pairs) (length (try_order job))) put
 
 -- what drilling a job did, by the end; other ends don't come

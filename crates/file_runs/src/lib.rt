@@ -3,4 +3,4 @@
 
 mod on_file;
 
-pub use on_file::{console_on_file, console_on_screen};
+pub use on_file::{console_on_file, console_on_nothing, console_on_screen};

@@ -1,14 +1,20 @@
 // The console on a file and a screen.
-ghost use Rattle.std.specs.Prelude.{◌≡◌, [], List, ℕ};
+ghost use Rattle.std.specs.Prelude.{◌≡◌, ◌≢◌, ◌↔◌, ◌⊎◌, [], List, ℕ, Bool, count_by, true, IsTrue, Some};
+ghost use Rattle.call_status.specs.declared.status.Status.{Status};
+ghost use Rattle.console.specs.Causes.{IsOfCommand};
+ghost use Rattle.outside.specs.Causes.{Rose};
+ghost use Rattle.file_runs.specs.FileNeeds.{HasAllOnFile};
+ghost use Rattle.console.specs.Below.{ReadFaultsBy, ReadsBy};
+ghost use Rattle.real_files.specs.Deeds.{deed_failed};
 ghost use Rattle.file_runs.specs.Below.{Command, Deed, given, StopsAtFailure};
-ghost use Rattle.console.specs.Words.{IsForm};
-ghost use Rattle.file_runs.specs.FileRun.{AreBehind, IsBehind};
+ghost use Rattle.console.specs.Words.{IsForm, IsNoForm, ReadsJob};
+ghost use Rattle.file_runs.specs.FileRun.{AreBehind, IsBehind, IsCalm};
 ghost use Rattle.file_runs.specs.FileWords.{DidOnFile, IsOnFile};
 ghost use Rattle.file_runs.specs.ScreenWords.{DidOnScreen};
 
 use console::{Ended, console};
 use outside::{Joint, MemoryDisk, Outside, Source};
-use real_files::{NotedScreen, RawFile, RawScreen, outside_of, raw_of};
+use real_files::{AbsentDisk, NotedScreen, RawFile, RawScreen, outside_of, raw_of};
 use std::alloc::Global;
 
 /// The console on an outside, behind which there may be a file and a screen, or a screen alone.
@@ -18,15 +24,20 @@ fn console_behind<S: Source, W: Outside>(
     job: &mut S,
     outside: &mut W,
 ) -> Ended
+    ensures usage { result.status ≡ Status.Usage ↔ IsNoForm words.now }
+    ensures only { (form : Command) → IsForm form words.now → IsOfCommand form result.status }
+    ensures read { ReadsJob words.now → ReadsBy (given S.Source job.old job.new) result.status }
+    ensures complete { (form : Command) → IsForm form words.now → (first : List ℕ) → IsTrue (W.is_honest outside.old) → W.held outside.old ≡ Some first → HasAllOnFile form (given S.Source job.old job.new).left first → (¬ (Rose (given S.Source job.old job.new).faults (given S.Source job.old job.new).faults_now)) → (¬ (Rose (W.disk_faults outside.old) (W.disk_faults outside.new))) → (¬ (Rose (W.put_faults outside.old) (W.put_faults outside.new))) → (result.status ≡ Status.Done) ⊎ (result.status ≡ Status.NoMemory) }
+    ensures faults { ReadFaultsBy W.Outside (given S.Source job.old job.new) outside.old outside.new result.status }
     ensures same { (form : Command) → IsForm form words.now → IsOnFile form → (W.moment outside.new).origin ≡ (W.moment outside.old).origin }
-    ensures did { (form : Command) → IsForm form words.now → (first : List ℕ) (deeds puts : List Deed) → AreBehind W.Outside outside.old outside.new first deeds puts → DidOnFile form (given S.Source job.old job.new) first deeds puts result }
+    ensures did { (form : Command) → IsForm form words.now → (first : List ℕ) (deeds puts : List Deed) (starved : Bool) → AreBehind W.Outside outside.old outside.new first deeds puts starved → DidOnFile starved form (given S.Source job.old job.new) first deeds puts result }
     ensures shown { (form : Command) → IsForm form words.now → (first : List ℕ) (puts : List Deed) → IsBehind W.Outside outside.old outside.new first puts → DidOnScreen form (given S.Source job.old job.new) first puts result }
 {
     console(alloc, words, job, outside)
 }
 
 /// The console on a file that gave these bytes, and a screen: nothing was asked of them yet. They are handed back; where a call on the
-/// file failed, that was the last.
+/// file failed, that was the last. The last of the answer says whether there was no memory for what was written past the file's end.
 pub fn console_on_file<S: Source, F: RawFile, R: RawScreen>(
     alloc: Global,
     words: &[String],
@@ -34,18 +45,29 @@ pub fn console_on_file<S: Source, F: RawFile, R: RawScreen>(
     file: F,
     bytes: Vec<u8>,
     screen: R,
-) -> (Ended, F, R)
+) -> (Ended, F, R, bool)
+    requires words { (form : Command) → IsForm form words.now → IsOnFile form }
     requires first { F.first file ≡ bytes.items }
     requires deeds { F.deeds file ≡ [] }
     requires puts { R.puts screen ≡ [] }
+    ensures usage { result.0.status ≡ Status.Usage ↔ IsNoForm words.now }
+    ensures only { (form : Command) → IsForm form words.now → IsOfCommand form result.0.status }
+    ensures read { ReadsJob words.now → ReadsBy (given S.Source job.old job.new) result.0.status }
+
+    // A failure is told only where one was.
+    ensures disk { IsCalm (F.deeds result.1) result.3 → result.0.status ≢ Status.DiskFault }
+    ensures put { count_by deed_failed (R.puts result.2) ≡ 0 → result.0.status ≢ Status.PutFault }
+
+    // With what the words need, no call that fails, and memory, it ends well.
+    ensures complete { (form : Command) → IsForm form words.now → HasAllOnFile form (given S.Source job.old job.new).left bytes.items → (¬ (Rose (given S.Source job.old job.new).faults (given S.Source job.old job.new).faults_now)) → IsCalm (F.deeds result.1) result.3 → count_by deed_failed (R.puts result.2) ≡ 0 → (result.0.status ≡ Status.Done) ⊎ (result.0.status ≡ Status.NoMemory) }
     ensures same { (form : Command) → IsForm form words.now → IsOnFile form → F.first result.1 ≡ bytes.items }
     ensures stops { StopsAtFailure (F.deeds result.1) }
-    ensures did { (form : Command) → IsForm form words.now → IsOnFile form → DidOnFile form (given S.Source job.old job.new) bytes.items (F.deeds result.1) (R.puts result.2) result.0 }
+    ensures did { (form : Command) → IsForm form words.now → IsOnFile form → DidOnFile result.3 form (given S.Source job.old job.new) bytes.items (F.deeds result.1) (R.puts result.2) result.0 }
 {
     let mut outside = outside_of(file, bytes, screen);
     let ended = console_behind(alloc, words, job, &mut outside);
-    let (file, screen) = raw_of(outside);
-    (ended, file, screen)
+    let (file, screen, starved) = raw_of(outside);
+    (ended, file, screen, starved)
 }
 
 /// The console on a disk in memory that holds these bytes, and a screen to which nothing was handed yet. The screen is handed back.
@@ -56,7 +78,8 @@ pub fn console_on_screen<S: Source, R: RawScreen>(
     bytes: Vec<u8>,
     screen: R,
 ) -> (Ended, R)
-    requires { R.puts screen ≡ [] }
+    requires words { (form : Command) → IsForm form words.now → ¬ (IsOnFile form) }
+    requires puts { R.puts screen ≡ [] }
     ensures { (form : Command) → IsForm form words.now → DidOnScreen form (given S.Source job.old job.new) bytes.items (R.puts result.1) result.0 }
 {
     let disk = MemoryDisk::new(alloc, bytes, Vec::new(alloc));
@@ -64,4 +87,25 @@ pub fn console_on_screen<S: Source, R: RawScreen>(
     let ended = console_behind(alloc, words, job, &mut outside);
     let (_, noted) = outside.into_parts();
     (ended, noted.into_screen())
+}
+
+/// The console where the file that the words name can't be opened, and a screen to which nothing was handed yet. The screen is handed back.
+pub fn console_on_nothing<S: Source, R: RawScreen>(
+    alloc: Global,
+    words: &[String],
+    job: &mut S,
+    screen: R,
+) -> (Ended, R)
+    requires words { (form : Command) → IsForm form words.now → IsOnFile form }
+    requires puts { R.puts screen ≡ [] }
+    ensures usage { result.0.status ≡ Status.Usage ↔ IsNoForm words.now }
+    ensures only { (form : Command) → IsForm form words.now → IsOfCommand form result.0.status }
+    ensures did { (form : Command) → IsForm form words.now → DidOnFile true form (given S.Source job.old job.new) [] [] (R.puts result.1) result.0 }
+{
+    let disk = AbsentDisk::new();
+    let noted = NotedScreen::new(screen);
+    let mut outside = Joint::new(disk, noted);
+    let ended = console_behind(alloc, words, job, &mut outside);
+    let (_, shown) = outside.into_parts();
+    (ended, shown.into_screen())
 }

@@ -1,12 +1,14 @@
 -- What one deed more adds to the crash images of a file, and what one put more prints.
 use Rattle.real_files.proofs.Common.{◌≡◌, ◌⊎◌, inl, inr, ⊎_elim, ℕ, ◌+◌, ◌≤◌, List, [], ◌∷◌, ◌++◌, length, refl, sym, ◌∙◌, ap, subst, arith, length-append, written, Torn, Passes, ImagesFollow, AddsNoImage, Failed, Deed, Wrote, Tore, Synced, Unsynced, file_by, file_images_by, file_after, file_images_at, deed_failed, StopsAtFailure, take, Some, IsErr, Result, Ok, Err, Prints}
-use Rattle.std.specs.Prelude.{◌-◌, count_by, take, Bool, false, cond, Result, Ok, Err, OnOk, IsErr, is_err, Some}
+use Rattle.std.specs.Prelude.{◌-◌, count_by, take, drop, Bool, false, cond, Result, Ok, Err, OnOk, IsErr, is_err, Some}
 use Rattle.outside.specs.Bytes.{Writes}
+use Rattle.std.proofs.Common.{append_assoc}
+use Rattle.std.proofs.lemmas.List.{take_all, length-drop}
 use Rattle.std.proofs.lemmas.List.Sums.{sum_by-append}
-use Rattle.std.proofs.Math.Seq.{take-append_seam}
+use Rattle.std.proofs.Math.Seq.{take-append_seam, take-add}
 use Rattle.outside.proofs.Torn.{untouched, torn_by_written}
 use Rattle.real_files.specs.DeedLaws.{past, stays, newest, file_left_now, file_after-append}
-use Rattle.real_files.specs.Shown.{printed_of, marks_of}
+use Rattle.real_files.specs.Shown.{printed_of, marks_of, bytes_put, deed_number}
 use Rattle.real_files.specs.ShownLaws.{printed_of-more, marks_of-more}
 use Rattle.std.proofs.lemmas.Bool.{cases_lt}
 
@@ -123,19 +125,36 @@ pub wrote_some : {T : Type 0} (result : Result T Failed) (held held' : List ℕ)
 wrote_some (Ok done) held held' at bytes within fails is = absurd (cc)
 wrote_some (Err failed) held held' at bytes within fails is = (held', refl, subst (λ (that : List ℕ). Torn at (length bytes) held that) (sym is) (torn_by_written held at bytes within (length bytes) (omega arith)))
 
-module _ (puts puts' : List Deed) (at : ℕ) (bytes : List ℕ) (is : puts' ≡ puts ++ Wrote at bytes ∷ []) where
-  pub printed_more : printed_of puts' ≡ printed_of puts ++ bytes
-  printed_more = ap printed_of is ∙ printed_of-more puts (Wrote at bytes)
+module _ (puts puts' : List Deed) (put : Deed) (is : puts' ≡ puts ++ put ∷ []) where
+  pub printed_more : printed_of puts' ≡ printed_of puts ++ bytes_put put
+  printed_more = ap printed_of is ∙ printed_of-more puts put
 
-  pub marks_more : marks_of 0 puts' ≡ marks_of 0 puts ++ record { at = at; before = length (printed_of puts) } ∷ []
+  pub marks_more : marks_of 0 puts' ≡ marks_of 0 puts ++ record { at = deed_number put; before = length (printed_of puts) } ∷ []
   marks_more =
       let same : 0 + length (printed_of puts) ≡ length (printed_of puts) = omega arith in
-      ap (marks_of 0) is ∙ marks_of-more 0 puts (Wrote at bytes) ∙ ap (λ (n : ℕ). marks_of 0 puts ++ record { at = at; before = n } ∷ []) same
+      ap (marks_of 0) is ∙ marks_of-more 0 puts put ∙ ap (λ (n : ℕ). marks_of 0 puts ++ record { at = deed_number put; before = n } ∷ []) same
 
   pub marks_longer : length (marks_of 0 puts') ≡ length (marks_of 0 puts) + 1
-  marks_longer = omega (arith, ap length marks_more, length-append (marks_of 0 puts) (record { at = at; before = length (printed_of puts) } ∷ []))
+  marks_longer = omega (arith, ap length marks_more, length-append (marks_of 0 puts) (record { at = deed_number put; before = length (printed_of puts) } ∷ []))
 
 -- a put that failed
-pub prints_some : {T : Type 0} (result : Result T Failed) (puts puts' : List Deed) (at count : ℕ) (bytes : List ℕ) → IsErr result → puts' ≡ puts ++ Wrote at (take count bytes) ∷ [] → Prints (Some (printed_of puts)) (Some (printed_of puts')) bytes result
+pub prints_some : {T : Type 0} (result : Result T Failed) (puts puts' : List Deed) (at count : ℕ) (bytes : List ℕ) → IsErr result → puts' ≡ puts ++ Tore at (take count bytes) ∷ [] → Prints (Some (printed_of puts)) (Some (printed_of puts')) bytes result
 prints_some (Ok done) puts puts' at count bytes fails is = absurd (cc)
-prints_some (Err failed) puts puts' at count bytes fails is = (count, ap Some (printed_more puts puts' at (take count bytes) is))
+prints_some (Err failed) puts puts' at count bytes fails is = (count, ap Some (printed_more puts puts' (Tore at (take count bytes)) is))
+
+-- a call more of a stream: what was taken by then, and what it took of the rest
+pub took_more : (handed handed' : List Deed) (start bytes : List ℕ) (taken count : ℕ) → taken ≤ length bytes → printed_of handed ≡ start ++ take taken bytes
+    → handed' ≡ handed ++ Wrote 0 (take count (take (length bytes - taken) (drop taken bytes))) ∷ [] → printed_of handed' ≡ start ++ take (taken + count) bytes
+took_more handed handed' start bytes taken count few so_far is =
+    let piece = take count (drop taken bytes) in
+    let whole : take (length bytes - taken) (drop taken bytes) ≡ drop taken bytes = take_all (length bytes - taken) (drop taken bytes) (omega (arith, few, length-drop taken bytes)) in
+    printed_more handed handed' (Wrote 0 (take count (take (length bytes - taken) (drop taken bytes)))) is
+    ∙ ap (λ (those : List ℕ). printed_of handed ++ take count those) whole
+    ∙ ap (λ (those : List ℕ). those ++ piece) so_far
+    ∙ append_assoc start (take taken bytes) piece
+    ∙ ap (λ (those : List ℕ). start ++ those) (sym (take-add taken count bytes))
+
+-- a put more, of what was handed over for it
+pub put_handed : (puts puts' handed handed' : List Deed) (put : Deed) → puts' ≡ puts ++ put ∷ [] → printed_of puts ≡ printed_of handed
+    → printed_of handed' ≡ printed_of handed ++ bytes_put put → printed_of puts' ≡ printed_of handed'
+put_handed puts puts' handed handed' put is same more = printed_more puts puts' put is ∙ ap (λ (those : List ℕ). those ++ bytes_put put) same ∙ sym more

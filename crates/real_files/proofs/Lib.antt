@@ -1,2 +1,3 @@
 mod DeedSteps
 pub mod Common
+mod ReadLemmas

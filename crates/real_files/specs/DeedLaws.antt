@@ -1,6 +1,6 @@
 -- What holds of the crash images that a list of deeds tells.
 use Rattle.std.proofs.Common.{◌≡◌, inl, ℕ, ◌+◌, ◌≤◌, List, [], ◌∷◌, ◌++◌, length, refl, sym, ◌∙◌, subst, arith, length-append}
-use Rattle.std.specs.Prelude.{Some, ◌≢◌, None}
+use Rattle.std.specs.Prelude.{Some}
 use Rattle.std.proofs.lemmas.List.{take_all, take-append-le}
 use Rattle.real_files.specs.Deeds.{Deed, Wrote, Tore, Synced, Unsynced, file_by, file_images_by, file_after, file_images_after, file_images_at}
 
@@ -50,5 +50,8 @@ module _ (first : List ℕ) (deeds : List Deed) (deed : Deed) where
       let step = file_images_after-append deeds deed first (λ image. image ≡ first) image here in
       subst (λ (these : List Deed). file_images_by deed (file_after first deeds) (file_images_after first (λ image. image ≡ first) these) image) (sym (take_all (length deeds) deeds (omega arith))) step
 
-pub none_told : (image : List ℕ) → None ≢ Some image
-none_told image is = cc
+-- of a file that isn't there no bytes are left
+pub absent_left : (image : List ℕ) → Some [] ≡ Some image → file_images_at [] [] 0 image
+absent_left image is =
+    let same : [] ≡ image = cc in
+    subst (λ (these : List ℕ). file_images_at [] [] 0 these) same (file_left_now [] [])

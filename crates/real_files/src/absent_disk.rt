@@ -2,7 +2,7 @@
 use crate::fault;
 use outside::{Disk, Failed};
 
-/// A disk that isn't there: it tells nothing, and each call fails.
+/// A disk that isn't there: it holds no bytes, and each call fails.
 #[derive(Drop)]
 pub struct AbsentDisk {
     faults: u64,
@@ -20,25 +20,26 @@ impl AbsentDisk {
 }
 
 impl Disk for AbsentDisk {
-    ghost use Rattle.std.specs.Prelude.{None, false, []};
+    ghost use Rattle.std.specs.Prelude.{None, Some, true, []};
+    ghost use Rattle.real_files.specs.Deeds.{file_images_at};
 
-    ghost held = { λ disk. None };
+    ghost held = { λ disk. Some [] };
 
-    ghost writes = { λ disk. None };
+    ghost writes = { λ disk. Some 0 };
 
     ghost moment = { λ disk. 0 };
 
     ghost origin = { λ disk. record { first = []; stop = None } };
 
-    ghost is_honest = { λ disk. false };
+    ghost is_honest = { λ disk. true };
 
-    ghost images = { λ disk moment image. ⊥ };
+    ghost images = { λ disk. file_images_at [] [] };
 
     ghost faults = { λ disk. disk.faults };
 
-    ghost use Rattle.real_files.specs.DeedLaws.{none_told};
+    ghost use Rattle.real_files.specs.DeedLaws.{absent_left};
 
-    ghost held_now = { λ disk image is. none_told image is };
+    ghost held_now = { λ disk image is. absent_left image is };
 
     fn moment(&self) -> u64 {
         0

@@ -8,18 +8,22 @@ use outside::{Disk, Failed};
 use std::alloc::AllocError;
 
 /// A disk that is a file, whose bytes are kept in memory as well: it was read once, at its opening, and each write goes into
-/// both. It is asked nothing of what it holds. After a write or a sync that fails it is stopped: each call fails.
+/// both. It is asked nothing of what it holds. After a write or a sync that fails it is stopped: each call fails. So it is where there was
+/// no memory for a write past its end, or no number for one call more: then it is starved.
 #[derive(Drop)]
 pub struct KeptDisk<F: RawFile> {
     file: F,
     held: Vec<u8>,
     number: u64,
     is_stopped: bool,
+    is_starved: bool,
     faults: u64,
     ghost replayed: { held.items ≡ file_after (F.first file) (F.deeds file) },
     ghost counted: { length (F.deeds file) ≡ number },
     ghost unfailed: { is_stopped ≡ false → count_by deed_failed (F.deeds file) ≡ 0 },
     ghost stops: { StopsAtFailure (F.deeds file) },
+    ghost calm: { is_stopped ≡ false → faults ≡ 0 },
+    ghost why: { is_starved ≡ false → count_by deed_failed (F.deeds file) ≡ 0 → is_stopped ≡ false },
 }
 
 impl<F: RawFile> KeptDisk<F> {
@@ -39,16 +43,18 @@ impl<F: RawFile> KeptDisk<F> {
             held: bytes,
             number: 0,
             is_stopped: false,
+            is_starved: false,
             faults: 0,
         }
     }
 
-    /// The file. Where a call on it failed, that was the last.
-    pub fn into_file(self) -> F
-        ensures file { result ≡ self.file }
-        ensures stops { StopsAtFailure (F.deeds result) }
+    /// The file, and whether the disk is starved. Where a call on the file failed, that was the last.
+    pub fn into_file(self) -> (F, bool)
+        ensures file { result.0 ≡ self.file }
+        ensures stops { StopsAtFailure (F.deeds result.0) }
+        ensures starved { result.1 ≡ self.is_starved }
     {
-        self.file
+        (self.file, self.is_starved)
     }
 }
 
@@ -107,10 +113,17 @@ impl<F: RawFile> Disk for KeptDisk<F> {
     }
 
     fn write_at(&mut self, at: u64, bytes: &[u8]) -> Result<(), Failed> {
-        if self.is_stopped || self.number == u64::MAX {
+        if self.is_stopped {
+            return fault(&mut self.faults);
+        }
+        if self.number == u64::MAX {
+            self.is_stopped = true;
+            self.is_starved = true;
             return fault(&mut self.faults);
         }
         if overwrite(&mut self.held, at as usize, bytes).is_err() {
+            self.is_stopped = true;
+            self.is_starved = true;
             return fault(&mut self.faults);
         }
         self.number += 1;
@@ -124,7 +137,12 @@ impl<F: RawFile> Disk for KeptDisk<F> {
     }
 
     fn sync(&mut self) -> Result<(), Failed> {
-        if self.is_stopped || self.number == u64::MAX {
+        if self.is_stopped {
+            return fault(&mut self.faults);
+        }
+        if self.number == u64::MAX {
+            self.is_stopped = true;
+            self.is_starved = true;
             return fault(&mut self.faults);
         }
         self.number += 1;

@@ -3,7 +3,9 @@
 
 mod absent_disk;
 mod file_trace;
+mod identity;
 mod kept_disk;
+mod noted_calls;
 mod noted_screen;
 mod raw_file;
 mod raw_screen;
@@ -17,6 +19,7 @@ ghost use Rattle.outside.specs.Causes.{FailsOnlyCounted};
 
 pub use absent_disk::AbsentDisk;
 pub use file_trace::FileTrace;
+pub use identity::may_spoil;
 pub use kept_disk::KeptDisk;
 pub use noted_screen::NotedScreen;
 use outside::Failed;

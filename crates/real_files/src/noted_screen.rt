@@ -1,4 +1,7 @@
 // A screen that tells what it printed.
+ghost use Rattle.std.specs.Prelude.{◌≡◌, count_by};
+ghost use Rattle.real_files.specs.Deeds.{deed_failed};
+
 use crate::{RawScreen, fault};
 use outside::{Failed, Screen};
 
@@ -7,6 +10,7 @@ use outside::{Failed, Screen};
 pub struct NotedScreen<R: RawScreen> {
     screen: R,
     faults: u64,
+    ghost calm: { count_by deed_failed (R.puts screen) ≡ 0 → faults ≡ 0 },
 }
 
 impl<R: RawScreen> NotedScreen<R> {

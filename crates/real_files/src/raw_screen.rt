@@ -13,5 +13,5 @@ pub trait RawScreen {
     /// Prints the bytes, or a prefix of them where it fails.
     fn put(&mut self, bytes: &[u8], at: u64) -> Result<(), Failed>
         ensures done { OnOk result (puts self.new ≡ puts self.old ++ deed.Wrote at bytes.now ∷ []) }
-        ensures failed { OnErr result ((count : ℕ) × (puts self.new ≡ puts self.old ++ deed.Wrote at (take count bytes.now) ∷ [])) };
+        ensures failed { OnErr result ((count : ℕ) × (puts self.new ≡ puts self.old ++ deed.Tore at (take count bytes.now) ∷ [])) };
 }

@@ -4,20 +4,18 @@ ghost use Rattle.std.specs.Fd.{file_raw_fd};
 ghost use Rattle.real_files.specs.Found.{found_by};
 
 use crate::RawFile;
-use crate::file_trace::{FileTrace, SYNCED, TORE, UNSYNCED, WROTE};
+use crate::file_trace::FileTrace;
+use crate::identity::is_apart;
+use crate::noted_calls::{noted_read, noted_sync, noted_write};
 use outside::Failed;
 use std::alloc::Global;
-use std::fs::{File, Metadata, OpenOptions};
+use std::fs::{File, OpenOptions};
 use std::io;
 use std::os::fd::AsRawFd;
-use std::os::unix::fs::{FileExt, MetadataExt};
 use std::rt::Files;
 
 /// A longer file is none that can be kept in memory.
 const MOST_BYTES: u64 = 1 << 26;
-
-/// Where the system shows what standard output and error write to.
-const STREAMS: [&str; 2] = ["/proc/self/fd/1", "/proc/self/fd/2"];
 
 /// What a file is opened for (docs/OPERATION.md).
 #[derive(Clone, Copy)]
@@ -66,20 +64,26 @@ pub struct StdFile<R: Files<File = File> + AllocGlobal> {
 }
 
 impl<R: Files<File = File> + AllocGlobal + Drop> StdFile<R> {
-    /// The file at this path, and its bytes. It is opened and locked, what was written into it is put on the disk, and then it is read.
-    /// Where there is none, and it is to be made, that comes with its first write.
+    /// The file at this path, and its bytes. It is opened and locked, what was written into it is put on the disk, and then it is read from
+    /// there. Where there is none, and it is to be made, that comes with its first write. One that is looked at alone is read, and no more
+    /// locked.
     ///
     /// # Errors
     ///
-    /// Where it can't be opened, locked, synced or read; where it is too long; and where standard output or error writes into it.
+    /// Where it can't be opened, locked, synced or read; where it is too long; where it has another name by then; where standard output or
+    /// error writes into it; and, as [`io::ErrorKind::OutOfMemory`], where there is no memory for its bytes.
     pub fn open(rt: R, path: String, wanted: FileUse) -> io::Result<(StdFile<R>, Vec<u8>)>
         ensures { IfOk result (λ opened. (⟦<StdFile<R> as RawFile>⟧.first opened.0 ≡ opened.1.items) × (⟦<StdFile<R> as RawFile>⟧.deeds opened.0 ≡ [])) }
     {
         let alloc = rt.alloc();
+        let mut found = FileTrace::new();
         let (place, bytes) = match open_store(&rt, path.as_str(), wanted, false) {
             Ok(store) => {
-                store.sync()?;
-                let bytes = read_whole(alloc, &store.file)?;
+                store.settle()?;
+                let bytes = read_whole(alloc, &store.file, &mut found)?;
+                if wanted.looks() {
+                    store.file.unlock()?;
+                }
                 (Place::Open(store), bytes)
             }
             Err(error) if wanted.makes() && error.kind() == io::ErrorKind::NotFound => {
@@ -87,8 +91,6 @@ impl<R: Files<File = File> + AllocGlobal + Drop> StdFile<R> {
             }
             Err(error) => return Err(error),
         };
-        let mut found = FileTrace::new();
-        found.note(&[WROTE, 0], &bytes);
         let file = StdFile {
             rt,
             path,
@@ -120,27 +122,57 @@ fn made<'a, R: Files<File = File> + AllocGlobal>(
     }
 }
 
+// The same, with its name on the disk.
+fn named<'a, R: Files<File = File> + AllocGlobal>(
+    rt: &R,
+    path: &str,
+    place: &'a mut Place,
+) -> io::Result<&'a Store> {
+    let store = made(rt, path, place)?;
+    store.sync_name()?;
+    Ok(store)
+}
+
 impl Store {
-    // Of a file that may be new the name is synced too.
-    fn sync(&self) -> io::Result<()> {
+    fn may_be_new(&self) -> bool {
+        self.folder.is_some()
+    }
+
+    // Puts the name on the disk, where it may be new.
+    fn sync_name(&self) -> io::Result<()> {
         match &self.folder {
-            None => self.file.sync_data(),
-            Some(folder) => {
-                self.file.sync_all()?;
-                folder.sync_all()
-            }
+            None => Ok(()),
+            Some(folder) => folder.sync_all(),
+        }
+    }
+
+    // Puts on the disk what was written, and has memory forget it: what is read then is what the disk has. After a sync that failed memory
+    // keeps what the disk lacks, takes that for written, and tells it once.
+    fn settle(&self) -> io::Result<()> {
+        self.sync_name()?;
+        if self.may_be_new() {
+            self.file.sync_all()?;
+        } else {
+            self.file.sync_data()?;
+        }
+        match libc::posix_fadvise(self.file.as_raw_fd(), 0, 0, libc::POSIX_FADV_DONTNEED) {
+            0 => Ok(()),
+            number => Err(io::Error::from_raw_os_error(number)),
         }
     }
 }
 
 // All bytes of a file.
-fn read_whole(alloc: Global, file: &File) -> io::Result<Vec<u8>> {
+fn read_whole(alloc: Global, file: &File, found: &mut FileTrace) -> io::Result<Vec<u8>>
+    requires { found.old.deeds ≡ [] }
+    ensures { IfOk result (λ bytes. found_by found.new.deeds ≡ bytes.items) }
+{
     let length = file.metadata()?.len();
     if length > MOST_BYTES {
         return Err(io::Error::from(io::ErrorKind::FileTooLarge));
     }
     let mut bytes = Vec::from_elem(alloc, 0u8, length as usize)?;
-    file.read_exact_at(&mut bytes, 0)?;
+    noted_read(file, found, &mut bytes)?;
     Ok(bytes)
 }
 
@@ -168,7 +200,8 @@ fn open_store<R: Files<File = File> + AllocGlobal>(
     } else {
         file.try_lock()?;
     }
-    if is_stream(rt, &file.metadata()?) {
+    // Another file may have got the name between the opening and the lock.
+    if !is_apart(rt, &file, path)? {
         return Err(io::Error::from(io::ErrorKind::InvalidInput));
     }
     if wanted.makes() && is_link {
@@ -201,14 +234,6 @@ fn behind_streams(file: File) -> io::Result<File>
     }
 }
 
-// Whether standard output or error writes into this file.
-fn is_stream<R: Files<File = File>>(rt: &R, file: &Metadata) -> bool {
-    STREAMS.iter().any(|stream| {
-        rt.metadata(stream).is_ok_and(|found| found.dev() == file.dev()
-            && found.ino() == file.ino())
-    })
-}
-
 // The folder that a path names its file in.
 fn folder_in(path: &str) -> &str {
     match path.rsplit_once('/') {
@@ -231,31 +256,16 @@ impl<R: Files<File = File> + AllocGlobal> RawFile for StdFile<R> {
     ghost deeds = { λ file. file.trace.deeds };
 
     fn write_at(&mut self, at: u64, bytes: &[u8]) -> Result<(), Failed> {
-        match made(&self.rt, self.path.as_str(), &mut self.place).and_then(|store| store
-            .file
-            .write_all_at(bytes, at))
-        {
-            Ok(()) => {
-                self.trace.note(&[WROTE, at], bytes);
-                Ok(())
-            }
-            Err(_) => {
-                self.trace.note(&[TORE, at], bytes);
-                Err(Failed)
-            }
+        match made(&self.rt, self.path.as_str(), &mut self.place) {
+            Ok(store) => noted_write(Some(&store.file), &mut self.trace, at, bytes),
+            Err(_) => noted_write(None, &mut self.trace, at, bytes),
         }
     }
 
     fn sync(&mut self) -> Result<(), Failed> {
-        match made(&self.rt, self.path.as_str(), &mut self.place).and_then(Store::sync) {
-            Ok(()) => {
-                self.trace.note(&[SYNCED, 0], &[]);
-                Ok(())
-            }
-            Err(_) => {
-                self.trace.note(&[UNSYNCED, 0], &[]);
-                Err(Failed)
-            }
+        match named(&self.rt, self.path.as_str(), &mut self.place) {
+            Ok(store) => noted_sync(Some(&store.file), store.may_be_new(), &mut self.trace),
+            Err(_) => noted_sync(None, false, &mut self.trace),
         }
     }
 }

@@ -1,8 +1,8 @@
 // A file and a screen as one outside.
-ghost use Rattle.std.specs.Prelude.{◌≡◌, ◌↔◌, ℕ, List, [], length, None, Some, IsTrue};
+ghost use Rattle.std.specs.Prelude.{◌≡◌, ◌↔◌, ℕ, List, [], length, None, Some, IsTrue, count_by, false};
 ghost use Rattle.outside.specs.Runs.{Leaves};
 ghost use Rattle.outside.specs.Moments.{Moment};
-ghost use Rattle.real_files.specs.Deeds.{StopsAtFailure};
+ghost use Rattle.real_files.specs.Deeds.{StopsAtFailure, deed_failed};
 ghost use Rattle.real_files.specs.Shown.{printed_of, LeftBy};
 
 use crate::{KeptDisk, NotedScreen, RawFile, RawScreen};
@@ -20,6 +20,8 @@ pub fn outside_of<F: RawFile, R: RawScreen>(
     requires puts { R.puts screen ≡ [] }
     ensures file { result.disk.file ≡ file }
     ensures screen { result.screen.screen ≡ screen }
+    ensures faults { ⟦<Joint<KeptDisk<F>, NotedScreen<R>> as Outside>⟧.disk_faults result ≡ 0 }
+    ensures put_faults { ⟦<Joint<KeptDisk<F>, NotedScreen<R>> as Outside>⟧.put_faults result ≡ 0 }
     ensures honest { IsTrue (⟦<Joint<KeptDisk<F>, NotedScreen<R>> as Outside>⟧.is_honest result) }
     ensures held { ⟦<Joint<KeptDisk<F>, NotedScreen<R>> as Outside>⟧.held result ≡ Some bytes.items }
     ensures printed { ⟦<Joint<KeptDisk<F>, NotedScreen<R>> as Outside>⟧.printed result ≡ Some [] }
@@ -29,15 +31,20 @@ pub fn outside_of<F: RawFile, R: RawScreen>(
     Joint::new(KeptDisk::new(file, bytes), NotedScreen::new(screen))
 }
 
-/// The file and the screen of an outside: what a crash may have left of it is what the deeds of the one and the puts of the other say.
-pub fn raw_of<F: RawFile, R: RawScreen>(outside: Joint<KeptDisk<F>, NotedScreen<R>>) -> (F, R)
+/// The file and the screen of an outside, and whether its disk is starved: what a crash may have left of it is what the deeds of the one and
+/// the puts of the other say.
+pub fn raw_of<F: RawFile, R: RawScreen>(outside: Joint<KeptDisk<F>, NotedScreen<R>>) -> (F, R, bool)
     ensures file { result.0 ≡ outside.disk.file }
     ensures screen { result.1 ≡ outside.screen.screen }
+    ensures disk_calm { result.2 ≡ false → count_by deed_failed (F.deeds result.0) ≡ 0 → ⟦<Joint<KeptDisk<F>, NotedScreen<R>> as Outside>⟧.disk_faults outside ≡ 0 }
+    ensures put_calm { count_by deed_failed (R.puts result.1) ≡ 0 → ⟦<Joint<KeptDisk<F>, NotedScreen<R>> as Outside>⟧.put_faults outside ≡ 0 }
+    ensures starved { result.2 ≡ outside.disk.is_starved }
     ensures stops { StopsAtFailure (F.deeds result.0) }
     ensures printed { ⟦<Joint<KeptDisk<F>, NotedScreen<R>> as Outside>⟧.printed outside ≡ Some (printed_of (R.puts result.1)) }
     ensures origin { (⟦<Joint<KeptDisk<F>, NotedScreen<R>> as Outside>⟧.moment outside).origin ≡ record { first = F.first result.0; stop = None } }
     ensures left { (t : Moment) (image seen : List ℕ) → ⟦<Joint<KeptDisk<F>, NotedScreen<R>> as Outside>⟧.left_since outside t image seen ↔ LeftBy (F.first result.0) (F.deeds result.0) (R.puts result.1) t image seen }
 {
     let (disk, screen) = outside.into_parts();
-    (disk.into_file(), screen.into_screen())
+    let (file, starved) = disk.into_file();
+    (file, screen.into_screen(), starved)
 }

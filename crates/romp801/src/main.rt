@@ -1,33 +1,47 @@
 //! The program: it makes the real parts, calls the console once, and ends with the status's number.
 #![tactic(auto)]
 
-ghost use Rattle.std.specs.Prelude.{◌≡◌, ◌++◌, [], ◌∷◌, ℕ, take, OnOk, OnErr};
+ghost use Rattle.std.specs.Prelude.{◌≡◌, ◌≤◌, ◌++◌, [], ◌∷◌, ℕ, take, length, IfOk, OnOk, OnErr};
 ghost use Rattle.std.specs.Process.{exit_status};
+ghost use Rattle.console.specs.Words.{IsForm};
+ghost use Rattle.console.specs.Wants.{source_for};
+ghost use Rattle.console.specs.declared.command_words.Command.{Command};
+ghost use Rattle.file_runs.specs.FileWords.{IsOnFile};
 ghost use Rattle.call_status.specs.Statuses.{status_number, error_text};
 ghost use Rattle.real_files.specs.Deeds as deed;
 ghost use Rattle.real_files.specs.Shown.{printed_of};
 
-use console::{
-    DiskKind, Ended, Status, console, disk_of, path_of, reads_source, status_text, try_store,
-};
-use file_runs::{console_on_file, console_on_screen};
-use outside::{Failed, Joint};
-use real_files::{AbsentDisk, FileUse, NotedScreen, RawScreen, ReadSource, StdFile, StdOut};
+use console::{DiskKind, Ended, Status, disk_of, path_of, reads_source, status_text, try_store};
+use file_runs::{console_on_file, console_on_nothing, console_on_screen};
+use outside::Failed;
+use real_files::{FileUse, RawScreen, ReadSource, StdFile, StdOut, may_spoil};
+use std::alloc::AllocError;
 use std::process::ExitCode;
 use std::{env, io};
 
-/// More than any word reads of the standard input.
-const MOST_BYTES: usize = 1 << 26;
-
 fn main(rt: HostRuntime) -> ExitCode {
-    let status = match run(&rt) {
-        Ok(ended) => ended.status,
-        Err(status) => status,
+    let status = match words_of(&rt) {
+        Ok(words) => {
+            let status = status_of(&rt, &words);
+            if status != Status::Done && may_tell(&rt, &words) {
+                let _ = tell(&status, &mut StdOut::new(rt.stderr()));
+            }
+            status
+        }
+        Err(status) => {
+            let _ = tell(&status, &mut StdOut::new(rt.stderr()));
+            status
+        }
     };
-    if status != Status::Done {
-        let _ = tell(&status, &mut StdOut::new(rt.stderr()));
-    }
     code_of(&status)
+}
+
+/// Whether a status may be told: not where its text may go into the file that the words name.
+fn may_tell(rt: &HostRuntime, words: &[String]) -> bool {
+    match disk_of(words) {
+        DiskKind::Looked | DiskKind::Changed | DiskKind::Made => !may_spoil(rt, path_of(words)),
+        DiskKind::OfTry | DiskKind::Empty => true,
+    }
 }
 
 /// Tells a status: its text and a line feed are handed to the screen, or a first part of them where a put fails.
@@ -46,18 +60,25 @@ fn code_of(status: &Status) -> ExitCode
     ExitCode::from(status.number())
 }
 
+/// What these words end with.
+fn status_of(rt: &HostRuntime, words: &[String]) -> Status {
+    match run(rt, words) {
+        Ok(ended) => ended.status,
+        Err(status) => status,
+    }
+}
+
 /// The console on the real source and screen, and on the disk that the words want.
-fn run(rt: &HostRuntime) -> Result<Ended, Status> {
+fn run(rt: &HostRuntime, words: &[String]) -> Result<Ended, Status> {
     let alloc = rt.alloc();
-    let words = words_of(rt)?;
-    // The source comes first: until it ends, another may have the file.
-    let mut job = source_of(rt, &words);
-    match disk_of(&words) {
-        DiskKind::Looked => on_file(rt, &words, &mut job, FileUse::Look),
-        DiskKind::Changed => on_file(rt, &words, &mut job, FileUse::Change),
-        DiskKind::Made => on_file(rt, &words, &mut job, FileUse::Make),
-        DiskKind::OfTry => on_bytes(rt, &words, &mut job, try_store(alloc)?),
-        DiskKind::Empty => on_bytes(rt, &words, &mut job, Vec::new(alloc)),
+    // The source comes first: until it is read, another may have the file.
+    let mut job = source_of(rt, words)?;
+    match disk_of(words) {
+        DiskKind::Looked => on_file(rt, words, &mut job, FileUse::Look),
+        DiskKind::Changed => on_file(rt, words, &mut job, FileUse::Change),
+        DiskKind::Made => on_file(rt, words, &mut job, FileUse::Make),
+        DiskKind::OfTry => on_bytes(rt, words, &mut job, try_store(alloc)?),
+        DiskKind::Empty => on_bytes(rt, words, &mut job, Vec::new(alloc)),
     }
 }
 
@@ -67,14 +88,17 @@ fn on_file(
     words: &[String],
     job: &mut ReadSource,
     wanted: FileUse,
-) -> Result<Ended, Status> {
+) -> Result<Ended, Status>
+    requires { (form : Command) → IsForm form words.now → IsOnFile form }
+{
     let path = String::from_str(rt.alloc(), path_of(words))?;
     match StdFile::open(rt.clone()?, path, wanted) {
         Ok((file, bytes)) => {
             let screen = StdOut::new(rt.clone()?);
-            let (ended, _, _) = console_on_file(rt.alloc(), words, job, file, bytes, screen);
+            let (ended, _, _, _) = console_on_file(rt.alloc(), words, job, file, bytes, screen);
             Ok(ended)
         }
+        Err(error) if error.kind() == io::ErrorKind::OutOfMemory => Err(Status::NoMemory),
         Err(_) => on_nothing(rt, words, job),
     }
 }
@@ -85,27 +109,28 @@ fn on_bytes(
     words: &[String],
     job: &mut ReadSource,
     bytes: Vec<u8>,
-) -> Result<Ended, Status> {
+) -> Result<Ended, Status>
+    requires { (form : Command) → IsForm form words.now → ¬ (IsOnFile form) }
+{
     let screen = StdOut::new(rt.clone()?);
     let (ended, _) = console_on_screen(rt.alloc(), words, job, bytes, screen);
     Ok(ended)
 }
 
 /// The console on a disk that isn't there, and the standard output.
-fn on_nothing(rt: &HostRuntime, words: &[String], job: &mut ReadSource) -> Result<Ended, Status> {
-    let screen = NotedScreen::new(StdOut::new(rt.clone()?));
-    let mut outside = Joint::new(AbsentDisk::new(), screen);
-    Ok(console(rt.alloc(), words, job, &mut outside))
+fn on_nothing(rt: &HostRuntime, words: &[String], job: &mut ReadSource) -> Result<Ended, Status>
+    requires { (form : Command) → IsForm form words.now → IsOnFile form }
+{
+    let screen = StdOut::new(rt.clone()?);
+    let (ended, _) = console_on_nothing(rt.alloc(), words, job, screen);
+    Ok(ended)
 }
 
-/// The standard input, where the words read it: it is read first.
-fn source_of(rt: &HostRuntime, words: &[String]) -> ReadSource {
-    let alloc = rt.alloc();
-    if reads_source(words) {
-        ReadSource::read(alloc, rt.stdin(), MOST_BYTES)
-    } else {
-        ReadSource::new(Vec::new(alloc), false)
-    }
+/// The standard input, as far as the words read it, and no further: it is read first.
+fn source_of(rt: &HostRuntime, words: &[String]) -> Result<ReadSource, AllocError>
+    ensures { IfOk result (λ source. (form : Command) → IsForm form words.now → length source.bytes.items ≤ source_for form) }
+{
+    ReadSource::read(rt.alloc(), rt.stdin(), reads_source(words))
 }
 
 /// The words of the command line, without the program's name: no command line where one is not UTF-8.

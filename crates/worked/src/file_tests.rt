@@ -1,8 +1,12 @@
 //! The console on a file in memory, which counts the calls on it and may fail one.
 ghost use Rattle.std.specs.Prelude.{◌≡◌, []};
+ghost use Rattle.console.specs.Words.{IsForm};
+ghost use Rattle.console.specs.declared.command_words.Command.{Command};
+ghost use Rattle.file_runs.specs.FileWords.{IsOnFile};
 ghost use Rattle.real_files.specs.Found.{found_by};
 
 use call_status::Status;
+use console::{DiskKind, disk_of};
 use file_runs::console_on_file;
 use outside::Failed;
 use real_files::{FileTrace, RawFile, RawScreen, ReadSource};
@@ -91,7 +95,7 @@ impl RawScreen for KeptScreen {
 
     fn put(&mut self, bytes: &[u8], at: u64) -> Result<(), Failed> {
         if self.text.extend_from_slice(bytes).is_err() {
-            self.trace.note(&[0, at], &[]);
+            self.trace.note(&[1, at], &[]);
             return Err(Failed);
         }
         self.trace.note(&[0, at], bytes);
@@ -177,20 +181,36 @@ struct Left {
     file: CountedFile,
 }
 
-/// The console on a file with these bytes.
+/// The console on a file with these bytes, by words that want one; by others none is called.
 fn call(alloc: Global, row: &Row, job: &str, held: &[u8]) -> Result<Left, AllocError> {
     let mut words = Vec::new(alloc);
     for word in row.words {
         words.push(String::from_str(alloc, word)?)?;
     }
+    match disk_of(&words) {
+        DiskKind::Changed | DiskKind::Made => call_on_file(alloc, &words, row.fails_at, job, held),
+        _ => Err(AllocError),
+    }
+}
+
+/// The console on a file with these bytes, whose call of that number fails.
+fn call_on_file(
+    alloc: Global,
+    words: &[String],
+    fails_at: u32,
+    job: &str,
+    held: &[u8],
+) -> Result<Left, AllocError>
+    requires { (form : Command) → IsForm form words.now → IsOnFile form }
+{
     let mut source = ReadSource::new(Vec::from_slice(alloc, job.as_bytes())?, false);
-    let file = CountedFile::new(Vec::from_slice(alloc, held)?, row.fails_at, held);
+    let file = CountedFile::new(Vec::from_slice(alloc, held)?, fails_at, held);
     let bytes = Vec::from_slice(alloc, held)?;
     let screen = KeptScreen {
         text: Vec::new(alloc),
         trace: FileTrace::new(),
     };
-    let (ended, file, screen) = console_on_file(alloc, &words, &mut source, file, bytes, screen);
+    let (ended, file, screen, _) = console_on_file(alloc, words, &mut source, file, bytes, screen);
     Ok(Left {
         status: ended.status,
         printed: screen.text,

@@ -1,7 +1,7 @@
 use Rattle.std.proofs.Common.{◌≡◌, ◌++◌, [], ◌∷◌, ℕ, zero, suc, List, take, Result, Ok, Err, OnErr, refl, ◌∙◌, ap, append_assoc}
 use Rattle.std.proofs.lemmas.Result.{on_err_weaker}
 use Rattle.call_status.specs.Statuses.{error_text}
-use Rattle.real_files.specs.Deeds.{Deed, Wrote}
+use Rattle.real_files.specs.Deeds.{Deed, Wrote, Tore}
 use Rattle.real_files.specs.Shown.{printed_of}
 use Rattle.real_files.specs.ShownLaws.{printed_of-more}
 use Rattle.romp801.proofs.tell.Goals as goal
@@ -29,7 +29,7 @@ returns-in_err-put-clause-failed g c =
     let same : bytes ≡ error_text c.args.status.now = c.as_bytes.ensures.value ∙ c.as_str.ensures.value ∙ c.status_text.ensures.text in
     on_err c.from_residual.result (
       its.0,
-      ap printed_of failed.1 ∙ printed_of-more puts (Wrote 0 (take failed.0 bytes)) ∙ ap (λ (those : List ℕ). printed_of puts ++ those) its.1
+      ap printed_of failed.1 ∙ printed_of-more puts (Tore 0 (take failed.0 bytes)) ∙ ap (λ (those : List ℕ). printed_of puts ++ those) its.1
           ∙ ap (λ (text : List ℕ). printed_of puts ++ take its.0 (text ++ 10 ∷ [])) same,
     )
 
@@ -42,7 +42,7 @@ returns-clause-failed g c =
     on_err_weaker c.put-2.result (λ failed.
     let its = whole bytes failed.0 in (
       its.0,
-      ap printed_of failed.1 ∙ printed_of-more (g.R.RawScreen.puts c.put.new.self) (Wrote 0 (take failed.0 (10 ∷ [])))
+      ap printed_of failed.1 ∙ printed_of-more (g.R.RawScreen.puts c.put.new.self) (Tore 0 (take failed.0 (10 ∷ [])))
           ∙ ap (λ (those : List Deed). printed_of those ++ take failed.0 (10 ∷ [])) first
           ∙ ap (λ (those : List ℕ). those ++ take failed.0 (10 ∷ [])) (printed_of-more puts (Wrote 0 bytes))
           ∙ append_assoc (printed_of puts) bytes (take failed.0 (10 ∷ []))

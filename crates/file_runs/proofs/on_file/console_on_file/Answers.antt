@@ -3,6 +3,10 @@ use Rattle.outside.specs.ClockLaws.{left_now}
 use Rattle.outside.specs.Origin.{Origin}
 use Rattle.real_files.specs.ShownLaws.{marks_in_order}
 use Rattle.file_runs.proofs.FileLemmas.{marks_counted}
+use Rattle.file_runs.specs.FileRun.{IsCalm}
+use Rattle.file_runs.proofs.Common.{arith, Status}
+use Rattle.real_files.specs.Deeds.{deed_failed}
+use Rattle.outside.specs.Causes.{Rose}
 use Rattle.file_runs.proofs.on_file.console_on_file.Goals as goal
 
 pub returns-clause-same : goal.returns-clause-same
@@ -19,8 +23,11 @@ returns-clause-did g c form is on_file =
     let puts = g.R.RawScreen.puts out.screen.screen in
     let bytes = c.args.bytes.items in
     let first : g.F.RawFile.first out.disk.file ≡ bytes = sym (ap g.F.RawFile.first parts.ensures.file) ∙ returns-clause-same g c form is on_file in
-    let this = λ (of_file of_screen : List Deed). DidOnFile form (given g.S.Source c.args.job.now ran.new.job) bytes of_file of_screen ran.result in
-    let did : this deeds puts = ran.ensures.did form is bytes deeds puts (record {
+    let starved = parts.result.2 in
+    let this = λ (of_file of_screen : List Deed). DidOnFile starved form (given g.S.Source c.args.job.now ran.new.job) bytes of_file of_screen ran.result in
+    let did : this deeds puts = ran.ensures.did form is bytes deeds puts starved (record {
+      started = made.ensures.faults;
+      calm_disk = λ is_calm. parts.ensures.disk_calm is_calm.0 (ap (count_by deed_failed) (ap g.F.RawFile.deeds parts.ensures.file) ∙ is_calm.1);
       screen = record { honest = made.ensures.honest; held = made.ensures.held; none = made.ensures.printed; shown = refl; left = made.ensures.left; unput = ap (λ (moment : Moment). moment.puts) made.ensures.moment; count = marks_counted 0 puts };
       moment = made.ensures.moment;
       calls = refl;
@@ -31,3 +38,21 @@ returns-clause-did g c form is on_file =
     }) in
     subst (λ (these : List Deed). this (g.F.RawFile.deeds parts.result.0) these) (ap g.R.RawScreen.puts (sym parts.ensures.screen))
     (subst (λ (these : List Deed). this these puts) (ap g.F.RawFile.deeds (sym parts.ensures.file)) did)
+
+pub returns-clause-disk : goal.returns-clause-disk
+returns-clause-disk g c calm is =
+    let rose = c.console_behind-ended.ensures.faults.outside.disk is in
+    absurd (omega (arith, c.outside_of-outside.ensures.faults, c.raw_of-file.ensures.disk_calm calm.0 calm.1, rose))
+
+pub returns-clause-put : goal.returns-clause-put
+returns-clause-put g c none is =
+    let rose = c.console_behind-ended.ensures.faults.outside.put is in
+    absurd (omega (arith, c.outside_of-outside.ensures.put_faults, c.raw_of-file.ensures.put_calm none, rose))
+
+pub returns-clause-complete : goal.returns-clause-complete
+returns-clause-complete g c form is has calm_source calm none =
+    let made = c.outside_of-outside in
+    let parts = c.raw_of-file in
+    c.console_behind-ended.ensures.complete form is c.args.bytes.items made.ensures.honest made.ensures.held has calm_source
+    (λ rose. absurd (omega (arith, made.ensures.faults, parts.ensures.disk_calm calm.0 calm.1, rose)))
+    (λ rose. absurd (omega (arith, made.ensures.put_faults, parts.ensures.put_calm none, rose)))

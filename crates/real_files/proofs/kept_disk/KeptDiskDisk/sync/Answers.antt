@@ -1,6 +1,7 @@
 use Rattle.real_files.proofs.Common.{inl, inr, refl, arith, Synced, Unsynced}
 use Rattle.std.proofs.lemmas.Grind.{common_steps}
-use Rattle.real_files.proofs.DeedSteps.{still_replayed, counted, still_unfailed, still_stops, passes, sync_adds, synced_leaves}
+use Rattle.real_files.proofs.DeedSteps.{still_replayed, count_more, counted, still_unfailed, still_stops, passes, sync_adds, synced_leaves}
+use Rattle.real_files.specs.Deeds.{deed_failed}
 use Rattle.real_files.proofs.kept_disk.KeptDiskDisk.sync.Goals as goal
 
 pub invariant_of-self-in-Ok : goal.invariant_of-self-in-Ok
@@ -12,6 +13,8 @@ invariant_of-self-in-Ok g c =
       counted = omega (arith, disk.counted, counted (file.first disk.file) disk.held.items (file.deeds disk.file) disk.replayed (file.first c.sync.new.self) (file.deeds c.sync.new.self) Synced c.in-Ok.ensures.first c.in-Ok.ensures.done);
       unfailed = λ goes. still_unfailed (file.deeds disk.file) (file.deeds c.sync.new.self) Synced c.in-Ok.ensures.done (disk.unfailed c.if-self.false) refl;
       stops = still_stops (file.deeds disk.file) (file.deeds c.sync.new.self) Synced c.in-Ok.ensures.done (disk.unfailed c.if-self.false);
+      calm = λ goes. disk.calm c.if-self.false;
+      why = λ fed none. c.if-self.false;
     }
 
 pub invariant_of-self-in-Err : goal.invariant_of-self-in-Err
@@ -23,6 +26,8 @@ invariant_of-self-in-Err g c =
       counted = omega (arith, disk.counted, counted (file.first disk.file) disk.held.items (file.deeds disk.file) disk.replayed (file.first c.sync.new.self) (file.deeds c.sync.new.self) Unsynced c.in-Err.ensures.first c.in-Err.ensures.failed);
       unfailed = λ goes. absurd (cc);
       stops = still_stops (file.deeds disk.file) (file.deeds c.sync.new.self) Unsynced c.in-Err.ensures.failed (disk.unfailed c.if-self.false);
+      calm = λ goes. absurd (cc);
+      why = λ fed none. absurd (omega (arith, none, count_more deed_failed (file.deeds disk.file) (file.deeds c.sync.new.self) Unsynced c.in-Err.ensures.failed));
     }
 
 pub returns-in-Ok-clause-durable : goal.returns-in-Ok-clause-durable

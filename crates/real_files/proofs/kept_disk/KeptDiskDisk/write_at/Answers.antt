@@ -1,5 +1,6 @@
 use Rattle.real_files.proofs.Common.{inl, inr, refl, sym, ◌∙◌, arith, Wrote, Tore}
-use Rattle.real_files.proofs.DeedSteps.{still_replayed, counted, still_unfailed, still_stops, write_follows, where_ok, wrote_some}
+use Rattle.real_files.proofs.DeedSteps.{still_replayed, count_more, counted, still_unfailed, still_stops, write_follows, where_ok, wrote_some}
+use Rattle.real_files.specs.Deeds.{deed_failed}
 use Rattle.real_files.proofs.kept_disk.KeptDiskDisk.write_at.Goals as goal
 
 pub invariant_of-self-in-Ok : goal.invariant_of-self-in-Ok
@@ -12,6 +13,8 @@ invariant_of-self-in-Ok g c =
       counted = omega (arith, disk.counted, counted (file.first disk.file) disk.held.items (file.deeds disk.file) disk.replayed (file.first c.write_at.new.self) (file.deeds c.write_at.new.self) (Wrote c.args.at c.args.bytes.now) c.in-Ok.ensures.first c.in-Ok.ensures.done);
       unfailed = λ goes. still_unfailed (file.deeds disk.file) (file.deeds c.write_at.new.self) (Wrote c.args.at c.args.bytes.now) c.in-Ok.ensures.done (disk.unfailed c.if-self.false) refl;
       stops = still_stops (file.deeds disk.file) (file.deeds c.write_at.new.self) (Wrote c.args.at c.args.bytes.now) c.in-Ok.ensures.done (disk.unfailed c.if-self.false);
+      calm = λ goes. disk.calm c.if-self.false;
+      why = λ fed none. c.if-self.false;
     }
 
 pub invariant_of-self-in-Err : goal.invariant_of-self-in-Err
@@ -24,6 +27,8 @@ invariant_of-self-in-Err g c =
       counted = omega (arith, disk.counted, counted (file.first disk.file) disk.held.items (file.deeds disk.file) disk.replayed (file.first c.write_at.new.self) (file.deeds c.write_at.new.self) (Tore c.args.at c.args.bytes.now) c.in-Err.ensures.first c.in-Err.ensures.failed);
       unfailed = λ goes. absurd (cc);
       stops = still_stops (file.deeds disk.file) (file.deeds c.write_at.new.self) (Tore c.args.at c.args.bytes.now) c.in-Err.ensures.failed (disk.unfailed c.if-self.false);
+      calm = λ goes. absurd (cc);
+      why = λ fed none. absurd (omega (arith, none, count_more deed_failed (file.deeds disk.file) (file.deeds c.write_at.new.self) (Tore c.args.at c.args.bytes.now) c.in-Err.ensures.failed));
     }
 
 pub returns-in-Ok-clause-crash : goal.returns-in-Ok-clause-crash
