@@ -12,7 +12,7 @@ pub use Rattle.lines.specs.Resident.{brought, taken_out}
 pub use Rattle.lines.specs.Waits.{shown_cycle, victim_of}
 pub use Rattle.outside.specs.Causes.{Rose}
 pub use Rattle.outside.specs.Durable.{IsSure}
-pub use Rattle.outside.specs.Runs.{CallsDisk, held_of, Leaves, OnlyAsks}
+pub use Rattle.outside.specs.Runs.{CallsDisk, held_of, Leaves, OnlyOpens}
 pub use Rattle.outside.specs.declared.world.Outside.{Ghosts}
 pub use Rattle.store_format.specs.Header.{Header, header_of, total}
 pub use Rattle.store_format.specs.Stands.{chosen, Standing, Stands, stands}

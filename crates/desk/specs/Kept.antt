@@ -3,7 +3,8 @@ use Rattle.std.specs.Prelude.{◌≡◌, ℕ, ◌+◌, ◌≤◌, ◌%◌, ◌^�
 use Rattle.std.specs.Option.{ForSome}
 use Rattle.desk.specs.Below.{chosen, Ghosts, Header, header_of, held_of, total}
 use Rattle.lines.specs.declared.line_geometry.PageSize.{PageSize}
-use Rattle.store_format.specs.Bank.{BankContent, Holds, Faulty, RecordLine, base_of, bank_of, record_bytes}
+pub use Rattle.store_format.specs.Asked.{records_of}
+use Rattle.store_format.specs.Bank.{Holds, Faulty, RecordLine, base_of, bank_of, record_bytes}
 use Rattle.desk.specs.declared.answers.Reopened.{Reopened}
 use Rattle.desk.specs.declared.answers.Reopened.TheVariants as reopened
 use Rattle.desk.specs.declared.answers.TurnEnd.{TurnEnd}
@@ -48,11 +49,6 @@ abbrev pub tells_fault : ReportLine → Bool
 tells_fault (line.Disk activation) = true
 tells_fault line.Closed = true
 tells_fault _ = false
-
--- the records of a bank; none where it has a fault
-abbrev pub records_of : BankContent → List (List RecordLine)
-records_of (Holds gate records) = records
-records_of (Faulty offset) = []
 
 -- The journal of a store: the size of its pages, the bytes of a record area, and the records in it.
 pub record Journal : Type 0 where

@@ -1,6 +1,6 @@
 -- What a supervisor tells of itself at a moment, and what an event makes of it.
 use Rattle.std.specs.Prelude.{◌≡◌, ℕ, ◌+◌, ◌≤◌, Bool, false, List}
-use Rattle.desk.specs.Below.{Ghosts, held_of, IsSure, OnlyAsks, stands}
+use Rattle.desk.specs.Below.{Ghosts, held_of, IsSure, OnlyOpens, stands}
 use Rattle.desk.specs.declared.answers.Begun.{Begun}
 use Rattle.desk.specs.declared.answers.Begun.TheVariants as begun
 use Rattle.desk.specs.declared.answers.Reopened.{Reopened}
@@ -89,11 +89,11 @@ module _ {D : Type 0} (shows : D → List ℕ → Desk → Type 0) (says : D →
       pub failed : FailsCounted (stored_fails answer) (G.disk_faults before) (G.disk_faults after)
       pub calls : CallsStore G (says new).fixed.header before after
 
-    -- a crash is taken so: the disk is only asked, and the answer is what its bytes hold
+    -- a crash is taken so: the disk is asked one sync at most, and read, and the answer is what its bytes hold
     pub record HasCrashed (old new : D) (before after : W) (answer : Reopened) : Type 0 where
       pub did : Takes G event.Crash (λ desk. reopened_told (numbers desk) answer) (IsReopened answer) (says old).fixed (shows old) (seen (says new) (shows new)) before after
       pub shut : StaysShut (says old).closed (answer ≡ reopened.Shut) ((new ≡ old) × (after ≡ before))
       pub told : says new ≡ record (says old) { closed = reopened_closes answer }
       pub failed : FailsCounted (reopened_fails answer) (G.disk_faults before) (G.disk_faults after)
       pub damage : IsDamage G (says old).fixed.header before answer
-      pub asks : OnlyAsks G before after
+      pub asks : OnlyOpens G before after

@@ -43,7 +43,7 @@ impl StoppingDisk {
 }
 
 impl Disk for StoppingDisk {
-    ghost use Rattle.std.specs.Prelude.{true, Some};
+    ghost use Rattle.std.specs.Prelude.{true, None, Some};
     ghost use Rattle.outside.specs.MemoryDisk.{disk_faults, disk_held, disk_images, disk_moment, disk_origin, disk_writes};
     ghost use Rattle.outside.specs.MemoryDiskLaws.{held_is_left};
     ghost use Rattle.drills.specs.StoppingDisk.{memory_of};
@@ -51,6 +51,8 @@ impl Disk for StoppingDisk {
     ghost held = { λ stopping. Some (disk_held (memory_of stopping)) };
 
     ghost writes = { λ stopping. Some (disk_writes (memory_of stopping)) };
+
+    ghost deeds = { λ stopping. None };
 
     ghost moment = { λ stopping. disk_moment (memory_of stopping) };
 

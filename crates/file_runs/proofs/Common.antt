@@ -7,7 +7,7 @@ pub use Rattle.desk.specs.Desk.{Desk}
 pub use Rattle.desk.specs.ReportLines.{ReportLine}
 pub use Rattle.desk.specs.Report.{event_lines, report}
 pub use Rattle.desk.specs.Run.{IsRunOf, run}
-pub use Rattle.file_runs.specs.FileRun.{AreBehind, Hands, IsBehind, IsQuiet, IsSeenAt, KeepsFile, LeavesAlways, LeavesAt, LeavesLast, OnlyAsked, RanOnFile, RanOnScreen, FromAnyStore, RunsOnFile, begun_by}
+pub use Rattle.file_runs.specs.FileRun.{AreBehind, Hands, IsBehind, IsSeenAt, KeepsFile, LeavesAlways, LeavesAt, LeavesLast, OnlyAsked, RanOnFile, RanOnScreen, FromAnyStore, RunsOnFile, begun_by}
 pub use Rattle.file_runs.specs.FileWords.{DidOnFile, IsOnFile}
 pub use Rattle.file_runs.specs.ScreenWords.{AuditedOnScreen, AuditsBy, DidOnScreen, DrilledJob, DrilledOnScreen, DrillsBy, HandsDrill, HandsLoad, HandsStops, ListedOnScreen, LoadedOnScreen, TracedOnScreen, TracesBy, TriedOnScreen}
 pub use Rattle.job_calls.specs.Headline.{Happened, RanJob, Refused, job_desk, names_of}

@@ -1,6 +1,16 @@
 -- From what the console did on an outside to what it did on the file and the screen behind it.
 use Rattle.std.specs.Prelude.{Bool}
 use Rattle.file_runs.proofs.Common.{◌≡◌, inl, inr, ⊎_elim, ℕ, ◌+◌, ◌≤◌, List, [], ◌∷◌, ◌++◌, append_assoc, Torn, written, length, length-append, take, drop, refl, sym, ◌∙◌, ap, subst, arith, suc, Option, Result, Some, IsSome, unwrap_or, Leaves, AsksAndPuts, OnlyAsks, None, Ghosts, All, cond, count_by, false, IsSure, FlatStore, Stands, stands, begun, IsSerial, Given, call, IsFaultAt, TellsStore, Status, SessionState, report, event_lines, Desk, IsRunOf, run, ReportLine, Failed, held_of, Happened, RanJob, Refused, job_desk, names_of, Deed, Wrote, Tore, Synced, Unsynced, file_images_after, file_images_at, file_images_by, deed_writes, bytes_put, printed_of, marks_of, AreBehind, Hands, IsBehind, IsQuiet, IsSeenAt, KeepsFile, LeavesAlways, LeavesAt, LeavesLast, OnlyAsked, RanOnFile, RanOnScreen, FromAnyStore, RunsOnFile, begun_by}
+use Rattle.desk.specs.Asked.{EventAsks}
+use Rattle.desk.specs.Run.{Happening}
+use Rattle.outside.proofs.Runs.{not_after}
+use Rattle.outside.specs.Deeds.{IsCut, Since, SyncedOnce}
+use Rattle.outside.specs.Moments.{IsNotAfter}
+use Rattle.outside.specs.Runs.{OnlyOpens, OpensAndPuts}
+use Rattle.real_files.specs.Deeds.{file_after}
+use Rattle.schedule_replay.specs.RunAsks.{happened, OpenedAsks, RunAsks}
+use Rattle.std.proofs.Common.{append-nil}
+use Rattle.file_runs.specs.FileRun.{HappenedAsks, NothingAsked, OpenedWith}
 use Rattle.std.proofs.lemmas.List.{append_cancel_left, nil_from_length, take_all}
 use Rattle.std.proofs.lemmas.List.Elements.{All-nil, All-cons}
 use Rattle.outside.proofs.Torn.{torn_by_written, untouched}
@@ -57,24 +67,6 @@ no_bytes first held images at (b ∷ bs) now kept =
     let heads : b ≡ suc b = cc in
     absurd (omega (arith, heads)))
     (cases_lt (length held) at)
-
--- so where no write succeeded and one image alone may be left, the deeds change nothing
-quiet_by : (first held : List ℕ) (images : List ℕ → Type 0) (deeds : List Deed) → images held → count_by deed_writes deeds ≡ 0
-    → ((done : ℕ) (image : List ℕ) → done ≤ length deeds → file_images_after held images (take done deeds) image → image ≡ first) → All IsQuiet deeds
-quiet_by first held images [] now none kept = All-nil IsQuiet
-quiet_by first held images (Wrote at bytes ∷ deeds) now none kept =
-    let more : count_by deed_writes (Wrote at bytes ∷ deeds) ≡ 1 + count_by deed_writes deeds = sum_by-cons (λ deed. cond (deed_writes deed) 1 0) (Wrote at bytes) deeds in
-    absurd (omega (arith, more, none))
-quiet_by first held images (Tore at bytes ∷ deeds) now none kept =
-    All-cons IsQuiet (Tore at bytes) deeds (no_bytes first held images at bytes now (λ image left. kept 1 image (omega arith) left))
-    (quiet_by first (written held at bytes) (file_images_by (Tore at bytes) held images) deeds (inl refl) none (λ done image few left. kept (suc done) image (omega (arith, few)) left))
-quiet_by first held images (Synced ∷ deeds) now none kept =
-    All-cons IsQuiet Synced deeds tt (quiet_by first held (λ image. image ≡ held) deeds refl none (λ done image few left. kept (suc done) image (omega (arith, few)) left))
-quiet_by first held images (Unsynced ∷ deeds) now none kept =
-    All-cons IsQuiet Unsynced deeds tt (quiet_by first held images deeds now none (λ done image few left. kept (suc done) image (omega (arith, few)) left))
-
-keeps_file : (first : List ℕ) (deeds : List Deed) → count_by deed_writes deeds ≡ 0 → LeavesAlways first deeds (λ image. image ≡ first) → KeepsFile first deeds
-keeps_file first deeds none kept = record { quiet = quiet_by first first (λ image. image ≡ first) deeds refl none kept; kept = kept }
 
 -- no fewer bytes stood before a put than before the first
 from_first : (before : ℕ) (puts : List Deed) (count at : ℕ) → before + length (printed_of puts) ≤ count → before ≤ shown_by (marks_of before puts) count at
@@ -189,22 +181,58 @@ module _ {W : Type 0} (G : Ghosts W) (before after : W) (first : List ℕ) (deed
   leaves_always P leaves done image within is_image =
       let its = seen_at puts done in leaves image its.0 (since_start done image its.0 within is_image its.1)
 
-  -- where as many writes succeeded as before, none did
-  unwritten : G.writes after ≡ G.writes before → count_by deed_writes deeds ≡ 0
-  unwritten same = let is : Some (count_by deed_writes deeds) ≡ Some 0 = sym behind.writes ∙ same ∙ behind.unwritten in cc
+  -- the deeds of calls that told these
+  since_none : (P : List Deed → Type 0) → Since (G.deeds before) (G.deeds after) P → P deeds
+  since_none P since =
+      let told : Since (Some []) (Some deeds) P =
+      subst (λ (those : Option (List Deed)). Since (Some []) those P) behind.deeds_are (subst (λ (those : Option (List Deed)). Since those (G.deeds after) P) behind.undone since) in
+      let same : told.0 ≡ deeds = let is = told.1 in cc in
+      subst P same told.2
 
   -- where each pair has an image of the start, the file keeps its bytes
-  pub keeps : AsksAndPuts G before after → KeepsFile first deeds
-  keeps only = keeps_file first deeds (unwritten only.writes) (leaves_always (λ image. image ≡ first) (λ image seen was.
-      let begun = only.images (told G before after first puts behind.screen) image seen was in
-      behind.screen.left image begun.0 begun.1))
+  pub keeps : OpensAndPuts G before after → KeepsFile first deeds
+  keeps only = record {
+    asked = since_none (IsCut (Synced ∷ [])) only.deeds;
+    kept = leaves_always (λ image. image ≡ first) (λ image seen was.
+        let begun = only.images (told G before after first puts behind.screen) image seen was in
+        behind.screen.left image begun.0 begun.1);
+  }
 
-  pub only_asked : OnlyAsks G before after → OnlyAsked first deeds puts
+  pub only_asked : OnlyOpens G before after → OnlyAsked first deeds puts
   only_asked asks = record {
     unput = unput G before after first puts behind.screen asks.calls.puts;
-    keeps = keeps_file first deeds (unwritten asks.writes) (leaves_always (λ image. image ≡ first) (λ image seen was.
-        behind.screen.left image seen (asks.crash (told G before after first puts behind.screen) image seen was)));
+    keeps = record {
+      asked = since_none (IsCut (Synced ∷ [])) asks.deeds;
+      kept = leaves_always (λ image. image ≡ first) (λ image seen was.
+          behind.screen.left image seen (asks.crash (told G before after first puts behind.screen) image seen was));
+    };
   }
+
+  -- where the disk was only read, nothing was asked that may change it
+  pub only_read : OnlyAsks G before after → NothingAsked deeds puts
+  only_read asks = (let is : Some deeds ≡ Some [] = sym behind.deeds_are ∙ asks.deeds ∙ behind.undone in cc, unput G before after first puts behind.screen asks.calls.puts)
+
+  -- what was asked behind earlier deeds while these happened
+  happened_asks : (these : List Happening) (start : W) (earlier : List Deed) → IsNotAfter (G.moment before) (G.moment start) → G.deeds start ≡ Some earlier → RunAsks G these start after
+      → (later : List Deed) × (deeds ≡ earlier ++ later) × HappenedAsks first earlier these later
+  happened_asks [] start earlier since told (same, held, later) =
+      let all : Some deeds ≡ Some earlier = sym behind.deeds_are ∙ same ∙ told in
+      let is : deeds ≡ earlier = cc in
+      ([], is ∙ sym (append-nil earlier), refl)
+  happened_asks (one ∷ others) start earlier since told (mid, next, asked, rest) =
+      let here : Since (Some earlier) (G.deeds mid) (EventAsks (held_of G start) one) = subst (λ (those : Option (List Deed)). Since those (G.deeds mid) (EventAsks (held_of G start) one)) told asked in
+      let held : held_of G start ≡ file_after first earlier = ap (λ (those : Option (List ℕ)). unwrap_or those []) (behind.holds start earlier since.origin told) in
+      let more = happened_asks others mid (earlier ++ here.0) (not_after (G.moment before) (G.moment start) (G.moment mid) since next) here.1 rest in (
+        here.0 ++ more.0,
+        more.1 ∙ append_assoc earlier here.0 more.0,
+        (here.0, more.0, refl, subst (λ (bytes : List ℕ). EventAsks bytes one here.0) held here.2, more.2),
+      )
+
+  -- and behind an opening
+  opened_asks : (these : List Happening) → OpenedAsks G these before after → OpenedWith first deeds these
+  opened_asks these (start, since, synced, held, run) =
+      let told : G.deeds start ≡ Some (Synced ∷ []) = subst (λ (those : Option (List Deed)). SyncedOnce those (G.deeds start)) behind.undone synced in
+      happened_asks these start (Synced ∷ []) since told run
 
   -- where nothing was called, nothing was asked
   pub nothing : after ≡ before → (deeds ≡ []) × (puts ≡ [])
@@ -237,6 +265,7 @@ module _ {W : Type 0} (G : Ghosts W) (before after : W) (first : List ℕ) (deed
       did.ran.lines_are ∙ ap (λ (names : List (List ℕ)). event_lines names programs number taken (desk (held_of G before))) did.named ∙ ap (λ (bytes : List ℕ). event_lines (names_of ran.job) programs number taken (desk bytes)) held in
       record {
         ran = ran_on_screen G before after first puts behind.screen given order status session ran number store stood;
+        asked = opened_asks (happened programs taken (desk first)) (subst (λ (bytes : List ℕ). OpenedAsks G (happened programs taken (desk bytes)) before after) held did.deeds);
         crash = leaves_at (IsPrefix acts number store order []) (λ image seen was.
             ⊎_elim
             (λ of_start. start_is_prefix acts number store order image seen (ap stands (behind.screen.left image seen of_start.0) ∙ stood) (subst (λ (those : Option (List ℕ)). AreTold those seen) behind.screen.none of_start.1))

@@ -4,7 +4,7 @@ use Rattle.file_runs.proofs.Common.{◌≡◌, ◌⊎◌, ℕ, ◌<◌, List, []
 use Rattle.call_status.specs.declared.status.Status.TheVariants as status
 use Rattle.store_calls.specs.Renewed.{IsRenewed, Renewed}
 use Rattle.file_runs.specs.FileMade.{RenewedOnFile, WritesBy, WroteWidened, WrittenOnFile}
-use Rattle.file_runs.proofs.FileLemmas.{handed, held_is, leaves_always, nothing, only_asked, sure_last, told, unprinted, keeps, unput, leaves_at, printed_so, stands_at, sure_now}
+use Rattle.file_runs.proofs.FileLemmas.{handed, held_is, leaves_always, nothing, only_asked, only_read, sure_last, told, unprinted, keeps, unput, leaves_at, printed_so, stands_at, sure_now}
 use Rattle.store_calls.specs.Show.{HasNoRange, HasRange, PrintsRows, RangeShown}
 use Rattle.store_calls.specs.declared.show.Range.{Range}
 use Rattle.standby.specs.ShipCalled.{IsNotKept, PutsText, ShippedFrom}
@@ -35,8 +35,8 @@ module _ {W : Type 0} (G : Ghosts W) (before after : W) (first : List ℕ) (deed
     writes_by status.Done did = (empty did.0, stored did.0, handed G before after first puts behind.screen line status.Done did.1)
     writes_by status.PutFault did = (empty did.0, stored did.0, handed G before after first puts behind.screen line status.PutFault did.1)
     writes_by status.DiskFault did = unprinted G before after first puts behind.screen did.0
-    writes_by status.Exists did = (subst (λ (bytes : List ℕ). 0 < length bytes) same (did.1 has_told), only_asked G before after first deeds puts starved behind did.0)
-    writes_by status.NoMemory did = only_asked G before after first deeds puts starved behind did
+    writes_by status.Exists did = (subst (λ (bytes : List ℕ). 0 < length bytes) same (did.1 has_told), only_read G before after first deeds puts starved behind did.0)
+    writes_by status.NoMemory did = only_read G before after first deeds puts starved behind did
     writes_by _ did = did
 
     pub write_on_file : (order : List (ℕ × ℕ)) (end : Status) → Written G image line (call before after order end) → WrittenOnFile image line first deeds puts end
@@ -45,7 +45,7 @@ module _ {W : Type 0} (G : Ghosts W) (before after : W) (first : List ℕ) (deed
       torn = leaves_always G before after first deeds puts starved behind (λ left. Torn 0 (length image) first left) (λ left seen was.
           let its = did.crash behind.screen.honest has_told left seen was in
           subst (λ (start : List ℕ). Torn 0 (length image) start left) (behind.screen.left its.0 its.1 its.2) its.3);
-      full = λ some. only_asked G before after first deeds puts starved behind (did.full has_told (subst (λ (bytes : List ℕ). 0 < length bytes) (sym same) some));
+      full = λ some. only_read G before after first deeds puts starved behind (did.full has_told (subst (λ (bytes : List ℕ). 0 < length bytes) (sym same) some));
       by_end = writes_by end did.by_status;
     }
 
@@ -62,10 +62,10 @@ module _ {W : Type 0} (G : Ghosts W) (before after : W) (first : List ℕ) (deed
     }
 
     pub renew_on_file : (end : Status) → Renewed G bank given (call before after order end) → RenewedOnFile bank given first deeds puts end
-    renew_on_file status.SourceFault did = let none = nothing G before after first deeds puts starved behind did.by_status.0 in (none.0, none.1, did.by_status.1)
-    renew_on_file status.TooBig did = let none = nothing G before after first deeds puts starved behind did.by_status.0 in (none.0, none.1, did.by_status.1)
-    renew_on_file (status.Store offset) did = let none = nothing G before after first deeds puts starved behind did.by_status.0 in (none.0, none.1, did.by_status.1)
-    renew_on_file status.NoMemory did = only_asked G before after first deeds puts starved behind did.by_status
+    renew_on_file status.SourceFault did = let none = nothing G before after first deeds puts starved behind did.by_status.0 in (none, did.by_status.1)
+    renew_on_file status.TooBig did = let none = nothing G before after first deeds puts starved behind did.by_status.0 in (none, did.by_status.1)
+    renew_on_file (status.Store offset) did = let none = nothing G before after first deeds puts starved behind did.by_status.0 in (none, did.by_status.1)
+    renew_on_file status.NoMemory did = only_read G before after first deeds puts starved behind did.by_status
     renew_on_file end did = widened end did.by_status
 
   none : G.printed after ≡ G.printed before → printed_of puts ≡ []
@@ -193,7 +193,7 @@ module _ {W : Type 0} (G : Ghosts W) (before after : W) (first : List ℕ) (deed
   pub follow_on_file : (given : Given) (order : List (ℕ × ℕ)) (end : Status) → FollowedFrom G given (call before after order end) → FollowedOnFile given first deeds puts end
   follow_on_file given order end did =
       ⊎_elim
-      (λ none. let asked = nothing G before after first deeds puts starved behind none.0 in inl (asked.0, asked.1, none.1))
+      (λ none. let asked = nothing G before after first deeds puts starved behind none.0 in inl (asked, none.1))
       (λ has. inr (has.0, has.1, follows_by has.0 end did.refused has.2))
       did.by_status
 

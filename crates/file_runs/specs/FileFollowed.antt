@@ -4,7 +4,7 @@ use Rattle.file_runs.specs.Below.{ShipContent, Deed, due, FlatStore, Given, IsFa
 use Rattle.standby.specs.Followed.{IsAtNumber, followed_text, kept_text}
 use Rattle.standby.specs.FollowCalled.{HasText, IsDueOn, IsNoText}
 use Rattle.call_status.specs.declared.status.Status.TheVariants as status
-use Rattle.file_runs.specs.FileRun.{Hands, LeavesAt, LeavesLast, OnlyAsked, FromAnyStore}
+use Rattle.file_runs.specs.FileRun.{Hands, LeavesAt, LeavesLast, NothingAsked, OnlyAsked, FromAnyStore}
 
 -- an image stands for the store that lies so many of the text's records behind this number
 abbrev pub IsAfter : ShipContent → (number : ℕ) → FlatStore → (count : ℕ) → (image : List ℕ) → Type 0
@@ -48,4 +48,4 @@ FollowsBy content first deeds puts _ = ⊥
 -- `follow` on a file that gave these bytes: the source had no ship text, and nothing was asked; or it had one.
 abbrev pub FollowedOnFile : Given → (first : List ℕ) (deeds puts : List Deed) (end : Status) → Type 0
 FollowedOnFile given first deeds puts end =
-    ((deeds ≡ []) × (puts ≡ []) × IsNoText given end) ⊎ ((content : ShipContent) × HasText given content × FollowsBy content first deeds puts end)
+    (NothingAsked deeds puts × IsNoText given end) ⊎ ((content : ShipContent) × HasText given content × FollowsBy content first deeds puts end)

@@ -3,16 +3,16 @@ use Rattle.std.specs.Prelude.{◌≡◌, ℕ, ◌<◌, ◌⊎◌, List, [], leng
 use Rattle.file_runs.specs.Below.{Deed, FlatStore, Given, IsAll, IsNoStore, printed_of, Stands, stands, Status, Torn}
 use Rattle.call_status.specs.declared.status.Status.TheVariants as status
 use Rattle.store_calls.specs.Renewed.{IsNoOne, renew_line, renewed_image, standing_as_one, store_widened}
-use Rattle.file_runs.specs.FileRun.{Hands, LeavesAlways, LeavesLast, OnlyAsked}
+use Rattle.file_runs.specs.FileRun.{Hands, LeavesAlways, LeavesLast, NothingAsked}
 
 -- How writing an image and then a line ended: the file gave no bytes, and the image is left and nothing else; or a call of the file failed, and nothing was
--- handed to the screen; or the file was only asked, as there are bytes in it or no memory. Other ends don't come.
+-- handed to the screen; or nothing was asked, as there are bytes in it or no memory. Other ends don't come.
 abbrev pub WritesBy : (image line first : List ℕ) (deeds puts : List Deed) (end : Status) → Type 0
 WritesBy image line first deeds puts status.Done = (first ≡ []) × LeavesLast first deeds (λ left. left ≡ image) × Hands puts line status.Done
 WritesBy image line first deeds puts status.PutFault = (first ≡ []) × LeavesLast first deeds (λ left. left ≡ image) × Hands puts line status.PutFault
 WritesBy image line first deeds puts status.DiskFault = printed_of puts ≡ []
-WritesBy image line first deeds puts status.Exists = (0 < length first) × OnlyAsked first deeds puts
-WritesBy image line first deeds puts status.NoMemory = OnlyAsked first deeds puts
+WritesBy image line first deeds puts status.Exists = (0 < length first) × NothingAsked deeds puts
+WritesBy image line first deeds puts status.NoMemory = NothingAsked deeds puts
 WritesBy image line first deeds puts _ = ⊥
 
 -- An image was written into a file that gave these bytes, and told by a line.
@@ -22,7 +22,7 @@ pub record WrittenOnFile (image line first : List ℕ) (deeds puts : List Deed) 
   -- and in any case what the file gave, but for the range of the new store
   pub torn : LeavesAlways first deeds (λ left. Torn 0 (length image) first left)
   -- a file that gave some keeps them
-  pub full : 0 < length first → OnlyAsked first deeds puts
+  pub full : 0 < length first → NothingAsked deeds puts
   pub by_end : WritesBy image line first deeds puts end
 
 -- The source had a store of version 1, whole, and the image of the widened store, which stands for it, was written and told.
@@ -37,8 +37,8 @@ pub record WroteWidened (bank : ℕ) (given : Given) (first : List ℕ) (deeds p
 
 -- what `renew` did, by its end: where the source had no such store, nothing was asked of the file and the screen
 abbrev pub RenewedOnFile : (bank : ℕ) → Given → (first : List ℕ) (deeds puts : List Deed) (end : Status) → Type 0
-RenewedOnFile bank given first deeds puts status.SourceFault = (deeds ≡ []) × (puts ≡ []) × IsNoOne given status.SourceFault
-RenewedOnFile bank given first deeds puts status.TooBig = (deeds ≡ []) × (puts ≡ []) × IsNoOne given status.TooBig
-RenewedOnFile bank given first deeds puts (status.Store offset) = (deeds ≡ []) × (puts ≡ []) × IsNoOne given (status.Store offset)
-RenewedOnFile bank given first deeds puts status.NoMemory = OnlyAsked first deeds puts
+RenewedOnFile bank given first deeds puts status.SourceFault = NothingAsked deeds puts × IsNoOne given status.SourceFault
+RenewedOnFile bank given first deeds puts status.TooBig = NothingAsked deeds puts × IsNoOne given status.TooBig
+RenewedOnFile bank given first deeds puts (status.Store offset) = NothingAsked deeds puts × IsNoOne given (status.Store offset)
+RenewedOnFile bank given first deeds puts status.NoMemory = NothingAsked deeds puts
 RenewedOnFile bank given first deeds puts end = WroteWidened bank given first deeds puts end

@@ -1,6 +1,6 @@
 -- What a run left of a file and a screen, in the words of what was asked of them.
-use Rattle.std.specs.Prelude.{◌≡◌, ℕ, ◌+◌, ◌≤◌, ◌++◌, Bool, true, false, List, [], length, take, count_by, All, Option, None, Some, Result, Ok, IsTrue}
-use Rattle.file_runs.specs.Below.{begun, ByOpening, content_of, Deed, Event, event_lines, Failed, FlatStore, Given, file_images_at, deed_writes, IsFaultAt, IsRunOf, IsSerial, IsWholeText, Job, job_desk, job_of, marks_of, names_of, printed_of, Prints, put_by, report, run, SessionState, Stands, stands, Status, Synced, Tore, Unsynced, DiskWord, Wrote}
+use Rattle.std.specs.Prelude.{◌≡◌, ℕ, ◌+◌, ◌≤◌, ◌++◌, Bool, true, false, List, [], ◌∷◌, length, take, count_by, Option, None, Some, Result, Ok, IsTrue}
+use Rattle.file_runs.specs.Below.{begun, ByOpening, content_of, Deed, Event, event_lines, Failed, FlatStore, Given, file_images_at, deed_writes, IsFaultAt, IsRunOf, IsSerial, IsWholeText, Job, job_desk, job_of, marks_of, names_of, printed_of, Prints, put_by, report, run, SessionState, Stands, stands, Status, Synced, DiskWord}
 use Rattle.outside.specs.declared.world.Outside.{Ghosts}
 use Rattle.desk.specs.Run.{faulted}
 use Rattle.schedule_replay.specs.Ran.{PrintsEarlier, run_text}
@@ -9,7 +9,11 @@ use Rattle.job_calls.specs.Below.{line_text, Open}
 use Rattle.call_status.specs.Opening.{IsStanding}
 use Rattle.outside.specs.Clock.{shown_by}
 use Rattle.real_files.specs.Shown.{LeftBy}
-use Rattle.real_files.specs.Deeds.{deed_failed}
+use Rattle.real_files.specs.Deeds.{deed_failed, file_after}
+use Rattle.desk.specs.Asked.{EventAsks}
+use Rattle.desk.specs.Run.{Happening}
+use Rattle.outside.specs.Deeds.{IsCut}
+use Rattle.schedule_replay.specs.RunAsks.{happened}
 use Rattle.outside.specs.Moments.{Moment}
 use Rattle.outside.specs.Runs.{Leaves}
 use Rattle.desk.specs.Kept.{KeepsJournal, journal_in}
@@ -36,22 +40,29 @@ LeavesAlways first deeds P = (done : ℕ) (image : List ℕ) → done ≤ length
 abbrev pub LeavesLast : (first : List ℕ) (deeds : List Deed) → (List ℕ → Type 0) → Type 0
 LeavesLast first deeds P = (image : List ℕ) → file_images_at first deeds (length deeds) image → P image
 
--- a deed that changes nothing: a sync, or a failed write of no bytes
-abbrev pub IsQuiet : Deed → Type 0
-IsQuiet (Wrote at bytes) = ⊥
-IsQuiet (Tore at bytes) = bytes ≡ []
-IsQuiet Synced = Unit {0}
-IsQuiet Unsynced = Unit {0}
-
--- Nothing else was asked of the file, and whenever the machine stops the bytes that it gave are left.
+-- Nothing but one sync was asked of the file, and whenever the machine stops the bytes that it gave are left.
 pub record KeepsFile (first : List ℕ) (deeds : List Deed) : Type 0 where
-  pub quiet : All IsQuiet deeds
+  pub asked : IsCut (Synced ∷ []) deeds
   pub kept : LeavesAlways first deeds (λ image. image ≡ first)
 
 -- and nothing was handed to the screen
 pub record OnlyAsked (first : List ℕ) (deeds puts : List Deed) : Type 0 where
   pub unput : puts ≡ []
   pub keeps : KeepsFile first deeds
+
+-- nothing was asked of the file and of the screen
+abbrev pub NothingAsked : (deeds puts : List Deed) → Type 0
+NothingAsked deeds puts = (deeds ≡ []) × (puts ≡ [])
+
+-- What was asked of a file that gave these bytes, behind earlier deeds, while these happened, in order: each asks by the bytes that the deeds before it left.
+abbrev pub HappenedAsks : (first : List ℕ) (earlier : List Deed) → List Happening → (later : List Deed) → Type 0
+HappenedAsks first earlier [] later = later ≡ []
+HappenedAsks first earlier (one ∷ others) later =
+    (here rest : List Deed) × (later ≡ here ++ rest) × EventAsks (file_after first earlier) one here × HappenedAsks first (earlier ++ here) others rest
+
+-- the same of all deeds: one sync opens the store, and behind it stands what happened asks
+abbrev pub OpenedWith : (first : List ℕ) (deeds : List Deed) → List Happening → Type 0
+OpenedWith first deeds these = (later : List Deed) × (deeds ≡ Synced ∷ later) × HappenedAsks first (Synced ∷ []) these later
 
 -- this text was handed to the screen, or a first part of it where the end isn't Done
 abbrev pub Hands : (puts : List Deed) (text : List ℕ) (end : Status) → Type 0
@@ -89,6 +100,8 @@ IsCalm deeds starved = (starved ≡ false) × (count_by deed_failed deeds ≡ 0)
 -- A job was run so on a file that gave these bytes.
 pub record RanOnFile (starved : Bool) (given : Given) (number : ℕ) (store : FlatStore) (first : List ℕ) (deeds puts : List Deed) (order : List (ℕ × ℕ)) (end : Status) : Type 0 where
   pub ran : RanOnScreen given number store first puts order end
+  -- one sync was asked of the file, and then what each event asks by what happened at it, in order, and nothing else
+  pub asked : OpenedWith first deeds (happened ran.job.programs.items ran.taken (job_desk ran.job first store))
   -- the machine may stop after any number of the deeds: each image that these may leave stands for the first commits: those that were seen or one more
   pub crash : LeavesAt first deeds puts (IsPrefix (begun ran.job.programs.items ran.job.events.items) number store order [])
   -- where no call on the file failed, and memory was there for what was written past its end, no event was told otherwise, and the desk is open
@@ -134,6 +147,9 @@ pub record AreBehind {W : Type 0} (G : Ghosts W) (before after : W) (first : Lis
   pub calm_disk : IsCalm deeds starved → G.disk_faults after ≡ 0
   pub screen : IsBehind G before after first puts
   pub moment : G.moment before ≡ begun_by first
+  pub undone : G.deeds before ≡ Some []
+  pub deeds_are : G.deeds after ≡ Some deeds
+  pub holds : (w : W) (done : List Deed) → (G.moment w).origin ≡ (G.moment before).origin → G.deeds w ≡ Some done → G.held w ≡ Some (file_after first done)
   pub calls : (G.moment after).calls ≡ length deeds
   pub unwritten : G.writes before ≡ Some 0
   pub writes : G.writes after ≡ Some (count_by deed_writes deeds)

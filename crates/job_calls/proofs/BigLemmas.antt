@@ -1,5 +1,5 @@
 -- A load on the store that a disk stands for.
-use Rattle.job_calls.proofs.Common.{◌≡◌, ℕ, ◌<◌, ◌≤◌, ⊎_elim, true, false, List, [], ◌∷◌, ◌++◌, length, refl, sym, ◌∙◌, ap, subst, arith, append-nil, append_assoc, Option, Ghosts, Failed, AreTold, Prints, IsSure, Elapses, CallsDisk, FewerLater, OnlyAsks, held_of, elapses-trans, FlatStore, Activation, Event, begun, is_commit, commit_lines, serial_lines, IsSerial, Desk, DiskWord, ReportLine, printed, spaced, faulted, Header, total, IsSessionOpened, activity, order_of, SessionState, ghosts, IsLasting, RunsQuietly, TallyTells, is_rollback, is_shut, out_after, InDoubt, PrintedNow, to_later, Job, Status, HasBigRun, IsToldBy, Loaded, LoadedBy, RanBig, big_line, last_out, line_for, Called, call, RunsFrom, IsStanding, TellsStore, StillTold, codes, decimal, All, Bool, Some, Result, Ok, Err, IsSome, IsTrue, count_by, HoldsStore, FailsOnlyCounted, span, Opening, run_end, lines_of, opening_of, fixed_of, OnErr, Rose, GoesBy, going_of, WentThrough}
+use Rattle.job_calls.proofs.Common.{◌≡◌, ℕ, ◌<◌, ◌≤◌, ⊎_elim, true, false, List, [], ◌∷◌, ◌++◌, length, refl, sym, ◌∙◌, ap, subst, arith, append-nil, append_assoc, Option, Ghosts, Failed, AreTold, Prints, IsSure, Elapses, CallsDisk, FewerLater, OpensWell, held_of, elapses-trans, FlatStore, Activation, Event, begun, is_commit, commit_lines, serial_lines, IsSerial, Desk, DiskWord, ReportLine, printed, spaced, faulted, Header, total, IsSessionOpened, activity, order_of, SessionState, ghosts, IsLasting, RunsQuietly, TallyTells, is_rollback, is_shut, out_after, InDoubt, PrintedNow, to_later, Job, Status, HasBigRun, IsToldBy, Loaded, LoadedBy, RanBig, big_line, last_out, line_for, Called, call, RunsFrom, IsStanding, TellsStore, StillTold, codes, decimal, All, Bool, Some, Result, Ok, Err, IsSome, IsTrue, count_by, HoldsStore, FailsOnlyCounted, span, Opening, run_end, lines_of, opening_of, fixed_of, OnErr, Rose, GoesBy, going_of, WentThrough}
 use Rattle.std.specs.List.{fold}
 use Rattle.std.specs.Option.{ForSome}
 use Rattle.hex.specs.Hex.{encode_lower}
@@ -73,7 +73,7 @@ ran_until G begins events new start between after last quiet runs held writes di
 }
 
 module _ {W : Type 0} (G : Ghosts W) (fewer_later : FewerLater G) (printed_now : PrintedNow G) (transfers : ℕ) (job : Job) (before start between after : W) (desk new : SessionState) (number : ℕ) (store : FlatStore)
-    (standing : TellsStore G before number store) (opens : IsSessionOpened G job.frames before start desk) (asks : OnlyAsks G before start) (programs_are : (activity desk).programs ≡ job.programs.items) (same_opened : new.opened ≡ desk.opened)
+    (standing : TellsStore G before number store) (opens : IsSessionOpened G job.frames before start desk) (asks : OpensWell G before start) (programs_are : (activity desk).programs ≡ job.programs.items) (same_opened : new.opened ≡ desk.opened)
     (same_honest : G.is_honest after ≡ G.is_honest start) (time : Elapses G.moment G.left_since start after) (asks-calm : G.disk_faults start ≡ G.disk_faults before)
     (last : List ℕ) (quiet : Quiet) (runs : RunsQuietly ghosts G (first_opening G job.frames before start desk opens asks []) job.events.items new (span start between) last quiet)
     (held : G.held after ≡ G.held between) (writes : G.writes after ≡ G.writes between) (disk : G.disk_faults after ≡ G.disk_faults between) (sure : IsSure G between → IsSure G after)
@@ -115,7 +115,7 @@ loaded_past G transfers c session status.Done past ran times = (ran, times)
 loaded_past G transfers c session status.PutFault past ran times = ran
 loaded_past G transfers c session _ past ran times = absurd past
 
-times_since : {W T : Type 0} (G : Ghosts W) (before start between after : W) (result : Result T Failed) → OnlyAsks G before start → CallsDisk G start between → PutsTimes G 1 between after result → PutsTimes G 1 before after result
+times_since : {W T : Type 0} (G : Ghosts W) (before start between after : W) (result : Result T Failed) → OpensWell G before start → CallsDisk G start between → PutsTimes G 1 between after result → PutsTimes G 1 before after result
 times_since G before start between after (Ok value) asks calls times = λ told.
     let there : IsSome (G.printed between) = subst (λ (those : Option (List ℕ)). IsSome those) (sym (calls.quiet.same ∙ asks.calls.quiet.same)) told in
     let more = times there in omega (arith, more, calls.puts, asks.calls.puts)
@@ -123,7 +123,7 @@ times_since G before start between after (Err failed) asks calls times = tt
 
 -- what a load did, by how its run ended
 module _ {W : Type 0} (G : Ghosts W) (fewer_later : FewerLater G) (printed_now : PrintedNow G) (transfers : ℕ) (job : Job) (is_load : IsBigJob transfers job) (before start between : W) (desk new : SessionState)
-    (opens : IsTrue (G.is_honest before) → IsSome (G.held before) → IsSessionOpened G job.frames before start desk) (asks : OnlyAsks G before start) (programs_are : (activity desk).programs ≡ job.programs.items) (same_programs : (activity new).programs ≡ (activity desk).programs) (same_opened : new.opened ≡ desk.opened) (asks-calm : G.disk_faults start ≡ G.disk_faults before)
+    (opens : IsTrue (G.is_honest before) → IsSome (G.held before) → IsSessionOpened G job.frames before start desk) (asks : OpensWell G before start) (programs_are : (activity desk).programs ≡ job.programs.items) (same_programs : (activity new).programs ≡ (activity desk).programs) (same_opened : new.opened ≡ desk.opened) (asks-calm : G.disk_faults start ≡ G.disk_faults before)
     (stood : IsSome (G.held before) → IsStanding (held_of G before)) (last : List ℕ) (calls : CallsDisk G start between) (still : StillTold G start between) where
   abbrev Ran : Quiet → Type 0
   Ran quiet = (first : Desk) → IsSure G start → ghosts.shows desk (held_of G start) first → RunsQuietly ghosts G (opening_of [] (fixed_of desk) first) job.events.items new (span start between) last quiet
@@ -212,7 +212,7 @@ big_text a b c d e f shown m n k transfers commits rollbacks out first second th
     ∙ ap (λ (x : ℕ). big_line x n k out) same_m ∙ ap (λ (x : ℕ). big_line transfers x k out) same_n ∙ ap (λ (x : ℕ). big_line transfers commits x out) same_k
 
 -- what is told of faults where a load was told so
-pub faults_told : {W : Type 0} (G : Ghosts W) (transfers : ℕ) (last : List ℕ) (before start between after : W) (desk new : SessionState) → OnlyAsks G before start → CallsDisk G start between → desk.closed ≡ false
+pub faults_told : {W : Type 0} (G : Ghosts W) (transfers : ℕ) (last : List ℕ) (before start between after : W) (desk new : SessionState) → OpensWell G before start → CallsDisk G start between → desk.closed ≡ false
     → (quiet : Quiet) → GoesBy ghosts G desk new start between (going_of quiet) → (now : Status) → IsToldBy G transfers quiet last (call between after [] now) → FaultsBy G before after now
 faults_told G transfers last before start between after desk new asks calls still (quiet.Ended commits rollbacks) goes now (past, puts, times) = record {
   disk = λ is. absurd (subst WentThrough is past);

@@ -27,7 +27,7 @@ pub use Rattle.outside.specs.Bytes.{AreTold, Prints}
 pub use Rattle.outside.specs.Causes.{Rose, FailsOnlyCounted}
 pub use Rattle.outside.specs.Durable.{IsSure}
 pub use Rattle.outside.specs.Moments.{Elapses}
-pub use Rattle.outside.specs.Runs.{CallsDisk, FewerLater, Leaves, OnlyAsks, held_of}
+pub use Rattle.outside.specs.Runs.{CallsDisk, FewerLater, Leaves, OpensWell, held_of}
 pub use Rattle.outside.specs.declared.failed.Failed.{Failed}
 pub use Rattle.outside.specs.declared.world.Outside.{Ghosts}
 pub use Rattle.schedule_replay.proofs.PutsLemmas.{PrintedNow}

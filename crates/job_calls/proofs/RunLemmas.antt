@@ -1,5 +1,5 @@
 -- What runs on the store that a disk stands for.
-use Rattle.job_calls.proofs.Common.{Result, Ok, Err, IsErr, IsSome, IsTrue, unwrap_or, Ghosts, Failed, Prints, Rose, Elapses, OnlyAsks, FewerLater, Leaves, held_of, elapses-trans, leaves_on, FlatStore, Activation, serial, header_of, most_lines, Standing, Stands, stands, Event, Desk, opened, DiskWord, Doubt, run, faulted, IsRunOf, ReportLine, line_text, Open, number_after, begun, IsSerial, IsSessionOpened, activity, session_desk, order_of, SessionState, ghosts, Replayed, PrintsEarlier, HasOpened, InDoubt, run_text, Reports, Replays, PrintedNow, to_since, Job, Status, status_of_replay, Called, Given, call, TellsStore, StillTold, FailsOnlyCounted, way_of, DidBy, JobHasRun, HasRunFrom, DoubtStands, Happened, HappenedTo, IsOfStart, RanJob, RunsFrom, put_by, names_of, job_desk, ◌≡◌, ◌⊎◌, ℕ, ◌+◌, ◌%◌, ◌^◌, inl, inr, Bool, true, false, List, [], ◌∷◌, ◌++◌, length, take, refl, sym, ◌∙◌, ap, subst, arith, append-nil, Option, Some, None, opening, span, Opening, Interval, run_end, lines_of, opening_of, report_of, report_lines_of, IfInDoubt, job_opening, fixed_of, TellsBy, ByOpening, PutJob, TellsJob}
+use Rattle.job_calls.proofs.Common.{Result, Ok, Err, IsErr, IsSome, IsTrue, unwrap_or, Ghosts, Failed, Prints, Rose, Elapses, OpensWell, FewerLater, Leaves, held_of, elapses-trans, leaves_on, FlatStore, Activation, serial, header_of, most_lines, Standing, Stands, stands, Event, Desk, opened, DiskWord, Doubt, run, faulted, IsRunOf, ReportLine, line_text, Open, number_after, begun, IsSerial, IsSessionOpened, activity, session_desk, order_of, SessionState, ghosts, Replayed, PrintsEarlier, HasOpened, InDoubt, run_text, Reports, Replays, PrintedNow, to_since, Job, Status, status_of_replay, Called, Given, call, TellsStore, StillTold, FailsOnlyCounted, way_of, DidBy, JobHasRun, HasRunFrom, DoubtStands, Happened, HappenedTo, IsOfStart, RanJob, RunsFrom, put_by, names_of, job_desk, ◌≡◌, ◌⊎◌, ℕ, ◌+◌, ◌%◌, ◌^◌, inl, inr, Bool, true, false, List, [], ◌∷◌, ◌++◌, length, take, refl, sym, ◌∙◌, ap, subst, arith, append-nil, Option, Some, None, opening, span, Opening, Interval, run_end, lines_of, opening_of, report_of, report_lines_of, IfInDoubt, job_opening, fixed_of, TellsBy, ByOpening, PutJob, TellsJob}
 use Rattle.std.proofs.lemmas.Bool.{cases_lt}
 use Rattle.outside.proofs.Prints.{prints_well, prints_broken}
 use Rattle.store.specs.KeptStore.{store_number}
@@ -11,6 +11,7 @@ use Rattle.desk_law.proofs.HeadlineLemmas.{left_is_prefix, doubt_is_whole, stage
 use Rattle.session.specs.ShownLaws.{shown-told}
 use Rattle.schedule_replay.specs.LinesPut.{PutsTimes, shown_on}
 use Rattle.schedule_replay.specs.RanTo.{RanTo}
+use Rattle.schedule_replay.specs.RunAsks.{happened, RunAsks}
 use Rattle.schedule_replay.proofs.ReportLemmas.{told_since}
 use Rattle.schedule_replay.proofs.CountLemmas.{on_ok_as}
 use Rattle.job_text.specs.Grammar.{job_of, content_of}
@@ -28,7 +29,7 @@ same-store : (one two : ℕ) (first second : FlatStore) → Stands one first ≡
 same-store one two first second is = cc
 
 -- a desk opened on the bytes of a disk
-module _ {W : Type 0} (G : Ghosts W) (frames : ℕ) (before start : W) (desk : SessionState) (opens : IsSessionOpened G frames before start desk) (asks : OnlyAsks G before start) where
+module _ {W : Type 0} (G : Ghosts W) (frames : ℕ) (before start : W) (desk : SessionState) (opens : IsSessionOpened G frames before start desk) (asks : OpensWell G before start) where
   abbrev pub first_desk : Desk
   first_desk = opened frames 16 (most_lines desk.store.header) opens.store
 
@@ -57,7 +58,7 @@ pub record RanFrom {W : Type 0} (G : Ghosts W) (begins : Opening) (events : List
   pub doubt : IfInDoubt taken (run_end begins taken).closed (λ front event. InDoubt G begins front event span.after)
 
 module _ {W : Type 0} (G : Ghosts W) (fewer_later : FewerLater G) (printed_now : PrintedNow G) (job : Job) (before start after : W) (desk new : SessionState) (number : ℕ) (store : FlatStore)
-    (standing : TellsStore G before number store) (opens : IsSessionOpened G job.frames before start desk) (asks : OnlyAsks G before start) (programs_are : (activity desk).programs ≡ job.programs.items) (same_opened : new.opened ≡ desk.opened)
+    (standing : TellsStore G before number store) (opens : IsSessionOpened G job.frames before start desk) (asks : OpensWell G before start) (programs_are : (activity desk).programs ≡ job.programs.items) (same_opened : new.opened ≡ desk.opened)
     (same_honest : G.is_honest after ≡ G.is_honest start) (time : Elapses G.moment G.left_since start after) (asks-calm : G.disk_faults start ≡ G.disk_faults before) where
   abbrev pub begins_with : Desk
   begins_with = job_desk job (held_of G before) store
@@ -213,6 +214,13 @@ module _ {W : Type 0} (G : Ghosts W) (fewer_later : FewerLater G) (printed_now :
       all = λ is. (ended is).1;
       still_open = λ is. sym (comes-to names half).closes ∙ (ended is).0;
       shut = λ is. sym (comes-to names half).closes ∙ shut is;
+      deeds = (
+        start,
+        asks.calls.time.later,
+        asks.deeds,
+        asks.held,
+        subst (λ (f : Opening). RunAsks G (happened f.programs reports.taken f.start) start after) (these names) reports.deeds,
+      );
       put = put;
       put_is = put_is;
       printed = subst (λ (told : Option (List ℕ)). Prints told (G.printed after) (report_of (wanted names) reports.taken reports.rest) put) asks.calls.quiet.same
@@ -225,12 +233,12 @@ module _ {W : Type 0} (G : Ghosts W) (fewer_later : FewerLater G) (printed_now :
     }
 
 -- bytes that were told are, after calls that only asked
-pub told-since : {W : Type 0} (G : Ghosts W) (before start : W) → OnlyAsks G before start → StillTold G before start
+pub told-since : {W : Type 0} (G : Ghosts W) (before start : W) → OpensWell G before start → StillTold G before start
 told-since G before start asks told = subst (λ (those : Option (List ℕ)). IsSome those) (sym asks.held) told
 
 -- what was replayed on a desk that was opened, by how that ended
 module _ {W : Type 0} (G : Ghosts W) (fewer_later : FewerLater G) (printed_now : PrintedNow G) (job : Job) (before start after : W) (desk new : SessionState)
-    (opens : IsTrue (G.is_honest before) → IsSome (G.held before) → IsSessionOpened G job.frames before start desk) (asks : OnlyAsks G before start) (programs_are : (activity desk).programs ≡ job.programs.items) (same_opened : new.opened ≡ desk.opened)
+    (opens : IsTrue (G.is_honest before) → IsSome (G.held before) → IsSessionOpened G job.frames before start desk) (asks : OpensWell G before start) (programs_are : (activity desk).programs ≡ job.programs.items) (same_opened : new.opened ≡ desk.opened)
     (same_honest : G.is_honest after ≡ G.is_honest start) (time : Elapses G.moment G.left_since start after) (still : StillTold G start after) (asks-calm : G.disk_faults start ≡ G.disk_faults before)
     (result : Replayed) (replays : (first : Desk) → HasOpened ghosts G desk start first → Replays ghosts G (opening_of (names_of job) (fixed_of desk) first) job.events.items new (span start after) result) where
   replayed-as : (that : Replayed) → result ≡ that → (number : ℕ) (store : FlatStore) (standing : TellsStore G before number store)

@@ -14,7 +14,7 @@ pub use Rattle.job_text.specs.declared.job.Job.{Job}
 pub use Rattle.lines.specs.FlatStore.{FlatStore}
 pub use Rattle.listing.specs.BytesPut.{PrintsBytes, PutsTimes}
 pub use Rattle.outside.specs.Moments.{Elapses}
-pub use Rattle.outside.specs.Runs.{held_of, Leaves, OnlyAsks}
+pub use Rattle.outside.specs.Runs.{held_of, Leaves, OnlyOpens}
 pub use Rattle.outside.specs.declared.world.Outside.{Ghosts}
 pub use Rattle.schedule_replay.specs.Asked.{begins_in}
 pub use Rattle.schedule_replay.specs.declared.events.Replayed.{Replayed}

@@ -1,6 +1,6 @@
 -- What a call of the console did: the run of the desk that its report tells of and what a crash leaves of it, or nothing.
 use Rattle.std.specs.Prelude.{◌≡◌, ◌≢◌, ◌⊎◌, ℕ, ◌+◌, ◌%◌, ◌^◌, true, false, List, [], ◌++◌, length, map, take, slice_set, Option, None, Some, IsSome, Result, Ok, Err}
-use Rattle.job_calls.specs.Below.{begun, Called, call, Elapses, FlatStore, Ghosts, Given, given, held_of, IsFaultAt, IsOfStart, IsSerial, Job, Leaves, ReportLine, line_text, OnlyAsks, Open, order_told, Replayed, SessionState, Status, StillTold, TellsStore, FaultsBy, ReadFaultsBy}
+use Rattle.job_calls.specs.Below.{begun, Called, call, Elapses, FlatStore, Ghosts, Given, given, held_of, IsFaultAt, IsOfStart, IsSerial, Job, Leaves, ReportLine, line_text, OnlyOpens, Open, order_told, Replayed, SessionState, Status, StillTold, TellsStore, FaultsBy, ReadFaultsBy}
 use Rattle.outside.specs.declared.failed.Failed.{Failed}
 use Rattle.outside.specs.declared.source.Source as source
 use Rattle.outside.specs.Bytes.{Prints}
@@ -16,6 +16,7 @@ use Rattle.desk_law.specs.Headline.{IsFirst, IsPrefix}
 use Rattle.schedule_replay.specs.LinesPut.{PutsTimes, shown_on}
 use Rattle.schedule_replay.specs.Ran.{IfInDoubt, PrintsEarlier, run_text}
 use Rattle.schedule_replay.specs.RanTo.{RanTo}
+use Rattle.schedule_replay.specs.RunAsks.{happened, OpenedAsks}
 use Rattle.schedule_replay.specs.Runs.{Opening, lines_of, opening, report_lines_of, report_of, span}
 use Rattle.schedule_replay.specs.Told.{TellsBy}
 use Rattle.session.specs.contracts.supervisor.SessionSupervisor.TheImpl.{ghosts}
@@ -98,6 +99,8 @@ pub record JobHasRun {W : Type 0} (G : Ghosts W) (job : Job) (number : ℕ) (sto
   pub all : call.status ≡ Status.Done → ran.rest ≡ []
   pub still_open : call.status ≡ Status.Done → ran.end.closed ≡ false
   pub shut : call.status ≡ Status.DiskFault → ran.end.closed ≡ true
+  -- one sync was asked of the disk, and then what each event asks by what happened at it, in order
+  pub deeds : OpenedAsks G (happened job.programs.items ran.taken (job_desk job (held_of G call.before) store)) call.before call.after
   pub put : Result ℕ Failed
   pub put_is : put_by call.status put
   pub printed : Prints (G.printed call.before) (G.printed call.after) (report_of (job_opening (names_of job) job number (held_of G call.before) store) ran.taken ran.rest) put
@@ -137,10 +140,10 @@ pub record PutJob {W : Type 0} (G : Ghosts W) (given : Given) (call : Called W) 
   pub means : job_of text ≡ Ok (content_of job)
   pub tells : TellsJob G job call
 
--- no event was run: nothing was printed, and the disk was only asked
+-- no event was run: nothing was printed, and the disk was asked one sync at most, and read
 pub record Untouched {W : Type 0} (G : Ghosts W) (call : Called W) : Type 0 where
   pub no_order : call.order ≡ []
-  pub asks : OnlyAsks G call.before call.after
+  pub asks : OnlyOpens G call.before call.after
 
 -- and the disk didn't fail
 pub record Refused {W : Type 0} (G : Ghosts W) (call : Called W) : Type 0 where

@@ -36,6 +36,7 @@ module _ {W : Type 0} (G : Ghosts W) where
     only = record {
       held = puts.only.held;
       writes = puts.only.writes;
+      deeds = puts.only.deeds;
       honest = puts.only.honest;
       time = puts.only.time;
       cause = record { later = puts.only.cause.later; failed = puts.only.cause.failed; done = tt };

@@ -1,5 +1,7 @@
 -- Calls that ask the disk, and puts, one after another.
 use Rattle.outside.proofs.Common.{◌≡◌, ⊎_elim, ℕ, List, [], sym, ◌∙◌, ap, subst, arith, Option, IsSome, Result, unwrap_or, Failed, Ghosts, Prints, AsksAndPuts, FewerLater, OnlyAsks, OnlyPuts, held_of, nat_tests}
+use Rattle.outside.specs.Deeds.{Deed}
+use Rattle.outside.specs.Runs.{AsksSo, AsksAndPutsSo}
 use Rattle.outside.proofs.Runs.{elapses-trans}
 
 -- a put leaves printed bytes told
@@ -10,17 +12,18 @@ module _ {W : Type 0} (G : Ghosts W) where
   pub shows_none : (now : W) → AsksAndPuts G now now
   shows_none now = grind (arith, nat_tests)
 
-  pub shows_asks : (old new : W) → OnlyAsks G old new → AsksAndPuts G old new
+  pub shows_asks : {D : (before after : Option (List Deed)) → Type 0} (old new : W) → AsksSo G D old new → AsksAndPutsSo G D old new
   shows_asks old new asks = grind (arith, nat_tests)
 
   pub shows_puts : {T : Type 0} (bytes : List ℕ) (old new : W) (result : Result T Failed) → OnlyPuts G old new result → Prints (G.printed old) (G.printed new) bytes result
       → ((image seen : List ℕ) → G.left_since new (G.moment old) image seen → (start : List ℕ) × G.left_since old (G.moment old) image start) → AsksAndPuts G old new
   shows_puts bytes old new result only printed images = grind (arith, nat_tests, still_told)
 
-  pub shows_on : (fewer_later : FewerLater G) (old mid new : W) → AsksAndPuts G old mid → AsksAndPuts G mid new → AsksAndPuts G old new
-  shows_on fewer_later old mid new first second = record {
+  pub shows_on : {D : (before after : Option (List Deed)) → Type 0} (fewer_later : FewerLater G) (old mid new : W) → AsksAndPutsSo G D old mid → AsksAndPuts G mid new → AsksAndPutsSo G D old new
+  shows_on {D} fewer_later old mid new first second = record {
     held = second.held ∙ first.held;
     writes = second.writes ∙ first.writes;
+    deeds = subst (λ (these : Option (List Deed)). D (G.deeds old) these) (sym second.deeds) first.deeds;
     honest = second.honest ∙ first.honest;
     time = elapses-trans G fewer_later old mid new first.time second.time;
     disk = omega (arith, first.disk, second.disk);
@@ -34,5 +37,5 @@ module _ {W : Type 0} (G : Ghosts W) where
         (second.time.nothing_else (G.moment old) image seen first.time.later left);
   }
 
-  pub held_same : (old new : W) → AsksAndPuts G old new → held_of G new ≡ held_of G old
+  pub held_same : {D : (before after : Option (List Deed)) → Type 0} (old new : W) → AsksAndPutsSo G D old new → held_of G new ≡ held_of G old
   held_same old new shows = ap (λ (these : Option (List ℕ)). unwrap_or these []) shows.held

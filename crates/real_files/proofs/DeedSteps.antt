@@ -1,4 +1,5 @@
 -- What one deed more adds to the crash images of a file, and what one put more prints.
+use Rattle.outside.specs.Deeds.{broken, Carries}
 use Rattle.real_files.proofs.Common.{◌≡◌, ◌⊎◌, inl, inr, ⊎_elim, ℕ, ◌+◌, ◌≤◌, List, [], ◌∷◌, ◌++◌, length, refl, sym, ◌∙◌, ap, subst, arith, length-append, written, Torn, Passes, ImagesFollow, AddsNoImage, Failed, Deed, Wrote, Tore, Synced, Unsynced, file_by, file_images_by, file_after, file_images_at, deed_failed, StopsAtFailure, take, Some, IsErr, Result, Ok, Err, Prints}
 use Rattle.std.specs.Prelude.{◌-◌, count_by, take, drop, Bool, false, cond, Result, Ok, Err, OnOk, IsErr, is_err, Some}
 use Rattle.outside.specs.Bytes.{Writes}
@@ -158,3 +159,9 @@ took_more handed handed' start bytes taken count few so_far is =
 pub put_handed : (puts puts' handed handed' : List Deed) (put : Deed) → puts' ≡ puts ++ put ∷ [] → printed_of puts ≡ printed_of handed
     → printed_of handed' ≡ printed_of handed ++ bytes_put put → printed_of puts' ≡ printed_of handed'
 put_handed puts puts' handed handed' put is same more = printed_more puts puts' put is ∙ ap (λ (those : List ℕ). those ++ bytes_put put) same ∙ sym more
+
+
+-- a call that was asked and failed
+pub cut_one : (deeds deeds' : List Deed) (deed : Deed) → deeds' ≡ deeds ++ broken deed ∷ [] → (result : Result (Unit {0}) Failed) → IsErr result → Carries (Some deeds) (Some deeds') (deed ∷ []) result
+cut_one deeds deeds' deed is (Ok done) fails = absurd (cc)
+cut_one deeds deeds' deed is (Err failed) fails = (broken deed ∷ [], ap Some is, record { front = []; rest = deed ∷ []; plan_is = refl; ends = inr refl })

@@ -1,19 +1,10 @@
 -- What is asked of a file that may change it, and what that makes of its bytes and of what a crash may leave.
+pub use Rattle.outside.specs.Deeds.{Deed, Wrote, Tore, Synced, Unsynced}
 use mathlib.Core.Path.{refl}
 use Rattle.std.specs.Prelude.{◌≡◌, ℕ, zero, suc, ◌-◌, List, [], ◌∷◌, length, take, count_by, Bool, true, false, slice_index}
 use Rattle.std.specs.Coded.{Coded, code_by, coded×, coded_ℕ, coded_list}
 use Rattle.outside.specs.Bytes.{written}
 use Rattle.outside.specs.Record.{WriteMayTear}
-
-pub data Deed : Type 0 where
-  -- these bytes were written at the offset
-  Wrote : (at : ℕ) (bytes : List ℕ) → Deed
-  -- a write of these bytes at the offset failed
-  Tore : (at : ℕ) (bytes : List ℕ) → Deed
-  -- a sync succeeded
-  Synced : Deed
-  -- a sync failed
-  Unsynced : Deed
 
 -- the bytes of the file after it, where it follows the disk model
 abbrev pub file_by : Deed → List ℕ → List ℕ

@@ -27,6 +27,8 @@ impl Disk for AbsentDisk {
 
     ghost writes = { λ disk. Some 0 };
 
+    ghost deeds = { λ disk. Some [] };
+
     ghost moment = { λ disk. 0 };
 
     ghost origin = { λ disk. record { first = []; stop = None } };

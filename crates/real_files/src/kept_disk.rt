@@ -78,6 +78,8 @@ impl<F: RawFile> Disk for KeptDisk<F> {
 
     ghost writes = { λ disk. Some (count_by deed_writes (F.deeds disk.file)) };
 
+    ghost deeds = { λ disk. Some (F.deeds disk.file) };
+
     ghost moment = { λ disk. length (F.deeds disk.file) };
 
     ghost origin = { λ disk. record { first = F.first disk.file; stop = None } };

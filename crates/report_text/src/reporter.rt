@@ -35,6 +35,7 @@ impl Reporter {
         ensures printed { Prints (W.printed outside.old) (W.printed outside.new) (line_text (line_told line.now)) result }
         ensures held { W.held outside.new ≡ W.held outside.old }
         ensures writes { W.writes outside.new ≡ W.writes outside.old }
+        ensures deeds { W.deeds outside.new ≡ W.deeds outside.old }
         ensures honest { W.is_honest outside.new ≡ W.is_honest outside.old }
         ensures time { Elapses W.moment W.left_since outside.old outside.new }
         ensures crash { ShowsPrefix (line_text (line_told line.now)) W.moment W.left_since outside.old outside.new }

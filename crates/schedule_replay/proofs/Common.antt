@@ -36,7 +36,7 @@ pub use Rattle.outside.specs.Bytes.{AreTold, Prints}
 pub use Rattle.outside.specs.Causes.{FailsOnlyCounted, Rose, RoseBy}
 pub use Rattle.outside.specs.Durable.{IsSure}
 pub use Rattle.outside.specs.Moments.{Elapses, ShowsPrefix}
-pub use Rattle.outside.specs.Runs.{CallsDisk, FewerLater, Leaves, OnlyAsks, OnlyPuts, held_of}
+pub use Rattle.outside.specs.Runs.{CallsDisk, FewerLater, Leaves, OnlyOpens, OnlyPuts, held_of}
 pub use Rattle.outside.specs.declared.failed.Failed.{Failed}
 pub use Rattle.outside.specs.declared.world.Outside.{Ghosts}
 pub use Rattle.report_text.specs.Line.{line_told}

@@ -1,10 +1,15 @@
 -- What one event keeps, how it goes on, and the numbers in its lines.
-use Rattle.schedule_replay.proofs.Common.{◌≡◌, ℕ, ◌+◌, ◌*◌, ◌≤◌, List, [], ◌∷◌, sym, ap, ◌∙◌, subst, arith, true, false, Bool, Option, Result, Ok, IfOk, Failed, Ghosts, IsSure, OnlyAsks, FewerLater, held_of, leaves_held, Program, Event, Begun, Turn, TurnEnd, Stored, Reopened, begun_told, turn_told, stored_told, reopened_told, turn_closes, turn_fails, stored_closes, stored_fails, reopened_closes, reopened_fails, HasNumbers, StoredNumber, IsReopened, TookEvent, Desk, numbers, Fine, CallsStore, FailsCounted, Fixed, StaysShut, HoldsStore, IsDamage, WritesMore, writes_due, ReportLine, happening_lines, number_after, step, AreNames, Told, ToldAfterEnd, Answered, ToldAfter, GoesBy, Going, Puts, end_number, stored_number, reopened_number, WasStep, WentBy, view_by, going_if, going_begun, going_by, is_closed, is_damaged, nat_tests, result_and, opening, opening_of, span, AreLinesOf}
+use Rattle.schedule_replay.proofs.Common.{refl, ◌≡◌, ℕ, ◌+◌, ◌*◌, ◌≤◌, List, [], ◌∷◌, sym, ap, ◌∙◌, subst, arith, true, false, Bool, Option, Result, Ok, IfOk, Failed, Ghosts, IsSure, FewerLater, held_of, leaves_held, Program, Event, Begun, Turn, TurnEnd, Stored, Reopened, begun_told, turn_told, stored_told, reopened_told, turn_closes, turn_fails, stored_closes, stored_fails, reopened_closes, reopened_fails, HasNumbers, StoredNumber, IsReopened, TookEvent, Desk, numbers, Fine, CallsStore, FailsCounted, Fixed, StaysShut, HoldsStore, IsDamage, WritesMore, writes_due, ReportLine, happening_lines, number_after, step, AreNames, Told, ToldAfterEnd, Answered, ToldAfter, GoesBy, Going, Puts, end_number, stored_number, reopened_number, WasStep, WentBy, view_by, going_if, going_begun, going_by, is_closed, is_damaged, nat_tests, result_and, opening, opening_of, span, AreLinesOf}
 use Rattle.desk.specs.declared.event.Event.TheVariants as event
 use Rattle.desk.specs.declared.answers.Begun.TheVariants as begun
 use Rattle.desk.specs.declared.answers.TurnEnd.TheVariants as end
 use Rattle.desk.specs.declared.answers.Stored.TheVariants as stored
 use Rattle.desk.specs.declared.answers.Reopened.TheVariants as reopened
+use Rattle.desk.specs.Asked.{EventAsks}
+use Rattle.outside.proofs.DeedLemmas.{since_none}
+use Rattle.outside.specs.Deeds.{Deed}
+use Rattle.outside.specs.Runs.{AsksSo, OnlyOpens}
+use Rattle.schedule_replay.proofs.RunAsksLemmas.{begun_silent}
 use Rattle.desk.specs.declared.supervisor.Supervisor as desk
 use Rattle.schedule_replay.specs.declared.events.Going.TheVariants as going
 use Rattle.schedule_replay.proofs.CountLemmas.{turn_calm, stored_calm, reopened_calm, writes_same, writes_fewer, turn_writes, reopened_writes, stored_writes}
@@ -60,7 +65,7 @@ after_other event closed old new others = record { fixed = ap (λ (told : Told).
 
 module _ {D W : Type 0} (S : desk.Ghosts D) (G : Ghosts W) where
   -- the store of a supervisor stays where the disk is only asked
-  pub store_asked : (old new : D) (before after : W) → (S.told new).fixed ≡ (S.told old).fixed → OnlyAsks G before after → HoldsStore G (S.told old).fixed.header before → CallsStore G (S.told new).fixed.header before after
+  pub store_asked : {C : (before after : Option (List Deed)) → Type 0} (old new : D) (before after : W) → (S.told new).fixed ≡ (S.told old).fixed → AsksSo G C before after → HoldsStore G (S.told old).fixed.header before → CallsStore G (S.told new).fixed.header before after
   store_asked old new before after fixed asks bytes = grind (arith, nat_tests)
 
   answered_event : (fewer_later : FewerLater G) {T : Type 0} (events : List Event) (lines : List ReportLine) (old new : D) (before between after : W) (result : Result T Failed) → ToldAfter events (S.told old) (S.told new)
@@ -85,7 +90,8 @@ module _ {D W : Type 0} (S : desk.Ghosts D) (G : Ghosts W) where
         (program : ℕ) (args : List ℕ) (answer : Begun) (start : Desk) (old new : D) (w : W) → IsSure G w → S.shows old (held_of G w) start
         → (next : Desk) × (step programs (event.Begin program args) Fine start ≡ record { desk = next; happening = begun_told program answer }) × S.shows new (held_of G w) next
         → WasStep S G (opening names programs (S.told old).fixed.opened start) (event.Begin program args) (happening_lines names 0 (begun_told program answer)) new (span w w)
-    begin_step law program args answer start old new w sure shows (next, is, shown) = grind (arith, nat_tests, leaves_held, writes_same)
+    begin_step law program args answer start old new w sure shows (next, is, shown) =
+        grind (arith, nat_tests, leaves_held, writes_same, since_none (EventAsks (held_of G w) (begun_told program answer)) (G.deeds w) (G.deeds w) refl (begun_silent (held_of G w) program answer))
 
     module _ (number : ℕ) (start : Desk) (new : D) (before after : W) where
       pub turn_step : (activation limit : ℕ) (answer : Turn) (printed : List ℕ)
@@ -114,7 +120,7 @@ module _ {D W : Type 0} (S : desk.Ghosts D) (G : Ghosts W) where
 
       pub crash_step : (lost : List ℕ) (answer : Reopened) → lost ≡ numbers start
           → (did : TookEvent G (record { programs = programs; number = number; event = event.Crash; told = reopened_told (numbers start) answer }) (view_by S new) start before after) × IsReopened answer (number_after number did.next)
-          → OnlyAsks G before after → FailsCounted (reopened_fails answer) (G.disk_faults before) (G.disk_faults after)
+          → OnlyOpens G before after → FailsCounted (reopened_fails answer) (G.disk_faults before) (G.disk_faults after)
           → WasStep S G (opening names programs number start) event.Crash (happening_lines names (reopened_number answer) (reopened_told lost answer)) new (span before after)
       crash_step lost answer are (did, has) asks failed = record {
         told = reopened_told (numbers start) answer;

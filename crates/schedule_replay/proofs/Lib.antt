@@ -2,6 +2,7 @@ pub mod Common
 pub mod CountLemmas
 pub mod PutsLemmas
 pub mod RanToLemmas
+mod RunAsksLemmas
 pub mod WentLemmas
 pub mod EventLemmas
 pub mod AnsweredLemmas

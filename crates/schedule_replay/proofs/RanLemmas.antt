@@ -5,6 +5,9 @@ use Rattle.schedule_replay.proofs.CountLemmas.{on_ok_as}
 use Rattle.schedule_replay.proofs.PutsLemmas.{PrintedNow, done, no_time, times_on, shown_after, begins_none, begins_on, begins_behind, printed_none}
 use Rattle.schedule_replay.proofs.WentLemmas.{last_is}
 use Rattle.schedule_replay.proofs.RanToLemmas.{ShownTold, to_none, to_on}
+use Rattle.schedule_replay.proofs.RunAsksLemmas.{happened_on, run_asks_none, run_asks_on}
+use Rattle.schedule_replay.specs.Below.{Happening}
+use Rattle.schedule_replay.specs.RunAsks.{happened, RunAsks}
 
 -- what is printed of earlier events, with more events behind
 earlier_on : {T U : Type 0} (old mid new : Option (List ℕ)) (text other : List (Event × DiskWord) → List ℕ) (one two : List (Event × DiskWord)) (value : T) (bytes : List ℕ) (result : Result U Failed)
@@ -68,6 +71,9 @@ module _ {D W : Type 0} (S : desk.Ghosts D) (G : Ghosts W) (fewer_later : FewerL
             subst (λ (desk : Desk). RanTo S G desk lines (faulted (one.taken ++ two.taken)) new (span before after)) (sym same)
             (to_on S G middle (run programs two.taken middle) (event_lines names programs number one.taken start) (event_lines names programs number two.taken middle) lines (faulted one.taken) (faulted two.taken) (faulted (one.taken ++ two.taken)) mid new before between after
             was_open (lines_on programs names number one.taken two.taken start) (faulted_on one.taken two.taken) one.to two.to);
+        deeds =
+            subst (λ (these : List Happening). RunAsks G these before after) (sym (happened_on programs one.taken two.taken start))
+            (run_asks_on G (happened programs one.taken start) (happened programs two.taken middle) before between after one.deeds two.deeds);
         printed = prints_same (G.printed before) (G.printed after) (bytes one.taken ++ later two.taken) (bytes (one.taken ++ two.taken)) result (behind two.taken)
             (prints_on (G.printed before) (G.printed between) (G.printed after) (bytes one.taken) (later two.taken) value result one.printed two.printed);
         times =
@@ -127,6 +133,7 @@ ran_none S G printed_now law names programs start new w sure shows = record {
   events_taken = refl;
   each_open = tt;
   to = to_none S G start new w (law new (held_of G w) start shows) sure shows;
+  deeds = run_asks_none G w (no_time G w).later;
   printed = printed_none G (G.printed w) 0;
   times = λ told. omega arith;
   earlier = inl refl;

@@ -1,13 +1,16 @@
 -- The report of a run, from its parts; and lines of answers, one after another, whatever stands on the disk.
 use Rattle.schedule_replay.proofs.Common.{◌≡◌, ℕ, List, [], ◌∷◌, ◌++◌, length, map, refl, sym, ap, ◌∙◌, subst, inl, inr, arith, append-nil, IsSome, Option, true, false, Result, Ok, IsErr, IfOk, OnOk, flat_map, Failed, Ghosts, Prints, IsSure, Elapses, Leaves, held_of, prints_same, prints_well, prints_on, prints_stop, leaves_held, elapses-trans, leaves_on, Program, Event, Desk, DiskWord, ReportLine, Open, Left, line_text, number_after, closing_lines, report, event_lines, run, faulted, commits_seen, IsLeft, IsStage, ArePlain, plain_on, commits_in, commits_on, seen_all, AreNames, Grew, run_grew, run_plain, report_parts, lines_end, left_none, left_more, stage_more, stage_none, Going, Puts, PutsTimes, BeginsWith, shown_on, Ran, HasOpened, PrintsEarlier, run_text, RanSome, Reports, Fixed, is_closed, nat_tests, opening, opening_of, span, ◌+◌, ◌<◌, get_or, take, append_assoc, take_more, flat_map-append, Bool, prints_broken, Begun, Turn, TurnEnd, Stored, Reopened, begun_told, turn_told, stored_told, reopened_told, Happening, happening_lines, CallsStore, Header, EntersOrder}
 use Rattle.std.proofs.lemmas.Result.{IfOk-weaker}
-use Rattle.schedule_replay.proofs.PutsLemmas.{times_on, shown_after, begins_none, begins_same, begins_on, begins_behind, done, printed_none}
+use Rattle.schedule_replay.proofs.PutsLemmas.{no_time, times_on, shown_after, begins_none, begins_same, begins_on, begins_behind, done, printed_none}
 use Rattle.schedule_replay.proofs.WentLemmas.{Laws, sure_puts, image_is}
 use Rattle.schedule_replay.proofs.RanLemmas.{leaves_join, seen_behind, seen_each}
 use Rattle.schedule_replay.proofs.RanToLemmas.{to_later, to_none, to_since}
 use Rattle.std.proofs.lemmas.Bool.{both_ways}
 use Rattle.schedule_replay.specs.Told.{IsToldOf, Enters, AreLinesOf, AreOfEnd, TellsLines, TellsBy, TellsSome, TellsReport}
 use Rattle.schedule_replay.specs.declared.events.Replayed.{Replayed}
+use Rattle.outside.specs.Moments.{IsNotAfter}
+use Rattle.schedule_replay.proofs.RunAsksLemmas.{run_asks_later, run_asks_since}
+use Rattle.schedule_replay.specs.RunAsks.{happened}
 use Rattle.desk.specs.declared.supervisor.Supervisor as desk
 use Rattle.schedule_replay.specs.declared.events.Going.TheVariants as going
 use Rattle.schedule_replay.specs.declared.events.Replayed.TheVariants as replayed
@@ -143,6 +146,7 @@ module _ {D W : Type 0} (S : desk.Ghosts D) (G : Ghosts W) (laws : Laws S G) (na
             rest = events;
             is_run = record { prefix = refl; each_open = tt };
             to = to_later S G start [] 0 old before before between puts.only.held puts.only.disk puts.only.writes (λ is. sure.0) (to_none S G start old before (laws.shown old (held_of G before) start opened.shows) opened.sure opened.shows);
+            deeds = (puts.only.deeds, puts.only.held, puts.only.time.later);
             printed = prints_same (G.printed before) (G.printed between) (first ++ more) (report names programs number [] events start) later whole (prints_stop (G.printed before) (G.printed between) first more result later one two puts.printed);
             times = times_failed _ later two;
             earlier = inl refl;
@@ -158,9 +162,9 @@ module _ {D W : Type 0} (S : desk.Ghosts D) (G : Ghosts W) (laws : Laws S G) (na
       -- the first line is put, then the lines of events and those of the end
       reports_of : {T U : Type 0} (events front rest : List Event) (new : D) (middle after : W) (value : T) (result : Result U Failed) (later : Result Going Failed) → HasOpened S G old before start → Puts G (Open number ∷ []) before between (Ok value) → front ++ rest ≡ events → (ran : Ran S G (opening names programs number start) front new (span between middle) result)
           → Tail start ran.taken rest between after later → (IsSure G middle → IsSure G after)
-          → ((image seen : List ℕ) → G.left_since after (G.moment after) image seen → (shown : List ℕ) × G.left_since middle (G.moment middle) image shown) → G.disk_faults after ≡ G.disk_faults middle → G.held after ≡ G.held middle → G.writes after ≡ G.writes middle → BeginsWith (G.printed middle) (G.printed after) []
+          → ((image seen : List ℕ) → G.left_since after (G.moment after) image seen → (shown : List ℕ) × G.left_since middle (G.moment middle) image shown) → G.disk_faults after ≡ G.disk_faults middle → G.held after ≡ G.held middle → G.writes after ≡ G.writes middle → G.deeds after ≡ G.deeds middle → IsNotAfter (G.moment middle) (G.moment after) → BeginsWith (G.printed middle) (G.printed after) []
           → IfOk later (λ going. (S.told new).closed ≡ is_closed going) → IfOk later (λ going. is_closed going ≡ false → rest ≡ []) → Reports S G (opening names programs number start) events new (span before after) is_closed later
-      reports_of events front rest new middle after value result later opened puts whole ran tail sure images disk same_held same_writes more closed all =
+      reports_of events front rest new middle after value result later opened puts whole ran tail sure images disk same_held same_writes same_deeds last more closed all =
           let first : List ℕ = flat_map line_text (Open number ∷ []) in
           let put = run_text (opening names programs number start) ran.taken in
           let ends = flat_map line_text (closing_lines number rest (run programs ran.taken start)) in
@@ -174,6 +178,9 @@ module _ {D W : Type 0} (S : desk.Ghosts D) (G : Ghosts W) (laws : Laws S G) (na
                 let end = run programs ran.taken start in
                 let lines = event_lines names programs number ran.taken start in
                 to_since S G end lines (faulted ran.taken) new before between after puts.only.held puts.only.disk puts.only.writes (to_later S G end lines (faulted ran.taken) new between middle after same_held disk same_writes sure ran.to);
+            deeds =
+                let these = happened programs ran.taken start in
+                run_asks_since G these before between after puts.only.deeds puts.only.held puts.only.time.later (run_asks_later G these between middle after ran.deeds same_deeds same_held last);
             printed = prints_same (G.printed before) (G.printed after) (first ++ (put ++ ends)) (report names programs number ran.taken rest start) later parts
                 (prints_on (G.printed before) (G.printed between) (G.printed after) first (put ++ ends) value later puts.printed tail.printed);
             times = grind (arith, lines_end programs names number ran.taken rest start, times_on G before between after (Open number ∷ []) (event_lines names programs number ran.taken start ++ closing_lines number rest (run programs ran.taken start)) value later puts.printed puts.times tail.times);
@@ -205,7 +212,7 @@ module _ {D W : Type 0} (S : desk.Ghosts D) (G : Ghosts W) (laws : Laws S G) (na
           reports_of events front rest new middle after value (Ok result) later opened puts whole ran (tail_put front rest start new between middle after result later opened_new was_open none ran closing)
           (λ sure. (sure_puts S G laws.later laws.printed (closing_lines number [] last) middle after later ends sure).0)
           (λ image seen left. ends.images image seen (laws.later after (G.moment middle) (G.moment after) image seen ends.only.time.later left))
-          ends.only.disk ends.only.held ends.only.writes (begins_none (G.printed middle) (G.printed after) (flat_map line_text (closing_lines number [] last)) later ends.printed) closed all
+          ends.only.disk ends.only.held ends.only.writes ends.only.deeds ends.only.time.later (begins_none (G.printed middle) (G.printed after) (flat_map line_text (closing_lines number [] last)) later ends.printed) closed all
 
   -- The first line can't be put.
   pub reports_unopened : {T : Type 0} (old : D) (start : Desk) (before between : W) (number : ℕ) (events : List Event) (result : Result T Failed) (later : Result Going Failed) → HasOpened S G old before start → ((held : List ℕ) (desk : Desk) → S.shows old held desk → number ≡ number_after (S.told old).fixed.opened desk) → Puts G (Open number ∷ []) before between result
@@ -227,7 +234,7 @@ module _ {D W : Type 0} (S : desk.Ghosts D) (G : Ghosts W) (laws : Laws S G) (na
         → Reports S G (opening_of names (S.told old).fixed start) events new (span before middle) is_closed later
     reports_still later tail closed all =
         reports_of (S.told old).fixed.programs (S.told old).fixed.opened old refl start before between events some_ran.front some_ran.rest new middle middle value result later opened first_put some_ran.whole some_ran.ran tail
-        (λ sure. sure) (λ image seen left. (seen, left)) refl refl refl (begins_same (G.printed middle) (G.printed middle) refl) closed all
+        (λ sure. sure) (λ image seen left. (seen, left)) refl refl refl refl (no_time G middle).later (begins_same (G.printed middle) (G.printed middle) refl) closed all
 
     -- a put failed among them
     pub reports_stopped : (later : Result Going Failed) → IsErr result → IsErr later → Reports S G (opening_of names (S.told old).fixed start) events new (span before middle) is_closed later

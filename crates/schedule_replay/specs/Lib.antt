@@ -5,6 +5,7 @@ pub mod Answered
 pub mod Told
 pub mod Runs
 pub mod RanTo
+pub mod RunAsks
 pub mod Ran
 pub mod Replays
 pub mod Quiet

@@ -5,6 +5,7 @@ use Rattle.desk.specs.declared.supervisor.Supervisor as desk
 use Rattle.desk.specs.Crash.{TookEvent, View, standing_of, fine_step}
 use Rattle.schedule_replay.specs.LinesPut.{BeginsWith, PutsTimes, shown_on}
 use Rattle.schedule_replay.specs.RanTo.{RanTo}
+use Rattle.schedule_replay.specs.RunAsks.{happened, RunAsks}
 use Rattle.schedule_replay.specs.Runs.{Opening, Interval, run_end, lines_of}
 
 -- what is seen of a supervisor
@@ -45,13 +46,14 @@ pub record WasStep {D W : Type 0} (S : desk.Ghosts D) (G : Ghosts W) (opening : 
   pub writes : WritesMore (G.writes span.before) (G.writes span.after) (2 * count_by is_commit lines)
   pub calm : count_by tells_fault lines ≡ 0 → G.disk_faults span.after ≡ G.disk_faults span.before
 
--- Events were run from an opening, each with a word, and their lines put. The image that a crash since the start left is one of the run, and where printed
+-- Events were run from an opening, each with a word, and their lines put. What was asked of the disk is what what happened asks. The image that a crash since the start left is one of the run, and where printed
 -- bytes are told it lacks no commit that was seen by then, and has at most one more.
 pub record Ran {D W : Type 0} (S : desk.Ghosts D) (G : Ghosts W) (opening : Opening) (events : List Event) (new : D) (span : Interval W) {T : Type 0} (result : Result T Failed) : Type 0 where
   pub taken : List (Event × DiskWord)
   pub events_taken : map (λ event. event.0) taken ≡ events
   pub each_open : OpenBeforeEach opening.programs taken opening.start
   pub to : RanTo S G (run_end opening taken) (lines_of opening taken) (faulted taken) new span
+  pub deeds : RunAsks G (happened opening.programs taken opening.start) span.before span.after
   pub printed : Prints (G.printed span.before) (G.printed span.after) (run_text opening taken) result
   pub times : PutsTimes G (length (lines_of opening taken)) span.before span.after result
   pub earlier : PrintsEarlier (G.printed span.before) (G.printed span.after) (λ front. run_text opening front) taken

@@ -12,6 +12,7 @@ use Rattle.schedule_replay.specs.Answered.{Answered, GoesBy, GoesShut, is_closed
 use Rattle.schedule_replay.specs.LinesPut.{Puts, PutsTimes, shown_on}
 use Rattle.schedule_replay.specs.Ran.{HasOpened, Ran, PrintsEarlier, IfInDoubt, InDoubt, run_text}
 use Rattle.schedule_replay.specs.RanTo.{RanTo}
+use Rattle.schedule_replay.specs.RunAsks.{happened, RunAsks}
 use Rattle.schedule_replay.specs.Runs.{Opening, Interval, run_end, lines_of, opening_of, report_of, report_lines_of, span}
 use Rattle.schedule_replay.specs.Told.{TellsLines, TellsReport, TellsSome}
 
@@ -58,7 +59,7 @@ pub record RanSome {D W : Type 0} (S : desk.Ghosts D) (G : Ghosts W) (opening : 
   pub sound : IfOk result (λ going. is_damaged going ≡ false)
   pub all : IfOk result (λ going. is_closed going ≡ false → rest ≡ [])
 
--- There is one run of the first of the events from the desk that was shown. Its report is put, a line by each put, or a prefix of it where
+-- There is one run of the first of the events from the desk that was shown, which asked of the disk what what happened asks. Its report is put, a line by each put, or a prefix of it where
 -- a put failed, which has the first line and those of all events but the last. A result says whether the desk is closed; all events were run where it
 -- goes on. The image that a crash at any moment since the start left is one of the run, and where printed bytes are told it lacks no commit that was
 -- seen by then, and has at most one more.
@@ -67,6 +68,7 @@ pub record Reports {D W : Type 0} (S : desk.Ghosts D) (G : Ghosts W) (opening : 
   pub rest : List Event
   pub is_run : IsRunOf opening.programs events opening.start taken rest
   pub to : RanTo S G (run_end opening taken) (lines_of opening taken) (faulted taken) new span
+  pub deeds : RunAsks G (happened opening.programs taken opening.start) span.before span.after
   pub printed : Prints (G.printed span.before) (G.printed span.after) (report_of opening taken rest) result
   pub times : PutsTimes G (length (report_lines_of opening taken rest)) span.before span.after result
   pub earlier : PrintsEarlier (G.printed span.before) (G.printed span.after) (λ front. line_text (Open opening.number) ++ run_text opening front) taken

@@ -5,7 +5,16 @@ use Rattle.frame_pool.specs.declared.pool_model.Pool.{Pool}
 use Rattle.session.proofs.DesertedLemmas.{sound-same}
 use Rattle.session.proofs.DidLemmas.{stood-over}
 use Rattle.desk.specs.declared.answers.TurnEnd.TheVariants as end
+use Rattle.store_format.specs.Header.{Header}
+use Rattle.desk.specs.Asked.{own_header}
+use Rattle.std.proofs.Common.{subst}
 use Rattle.desk.specs.Instruction as turn
+use Rattle.outside.specs.Deeds.{Since}
+use Rattle.store.proofs.AskedLemmas.{commit_shown}
+use Rattle.store.specs.Committed.{roomy}
+use Rattle.store.specs.Exact.{CommitsDeeds, KeptAsks}
+use Rattle.store.specs.declared.keep.Kept.{Kept}
+use Rattle.store.specs.declared.keep.Kept.TheVariants as kept
 use Rattle.activations.specs.Follows as running
 
 -- a number that rises where it is told
@@ -107,6 +116,13 @@ module _ {W : Type 0} (G : Ghosts W) (s : SessionState) (seat : ℕ) (sound : Is
   pub tracked : IsSure G before → (store : StoreView) → store ≡ with_begun s.store lines → TracksStore G store before
   tracked sure store is = grind (arith, is, shows_begun s.store lines (held_of G before) over.shows)
 
+  -- what a commit of the store asked, by the bytes
+  pub asked-so : (store : StoreView) → store ≡ with_begun s.store lines → TracksStore G store before → (answer : Kept) → CommitsDeeds (G.deeds before) (G.deeds after) (roomy store.bank) store.bank (held_of G before) answer
+      → Since (G.deeds before) (G.deeds after) (KeptAsks (own_header (held_of G before)) (held_of G before) answer)
+  asked-so store is tracks answer did =
+      subst (λ (header : Header). Since (G.deeds before) (G.deeds after) (KeptAsks header (held_of G before) answer)) (sym tracks.shows.header.said)
+      (commit_shown (held_of G before) store tracks.shows (G.deeds before) (G.deeds after) answer did)
+
   module _ (number : ℕ) (number_is : number ≡ store_number s.store) (n : SessionState) (told : Committed) (activation : told.activation ≡ number_in (activity s).seating seat)
       (steps : told.steps ≡ (sitter (activity s).seating seat).rows + 1) where
     pub went-done : n.store.header ≡ s.store.header → n.opened ≡ s.opened → n.closed ≡ s.closed → n.order.items ≡ s.order.items ++ told ∷ []
@@ -115,9 +131,10 @@ module _ {W : Type 0} (G : Ghosts W) (s : SessionState) (seat : ℕ) (sound : Is
         → store_number n.store ≡ (store_number s.store + 1) % 2 ^ 64 → TracksStore G n.store after → stands (held_of G after) ≡ one_more lines (stands (held_of G before))
         → Leaves G (IsEither lines (held_of G before)) before after
         → (added : List RecordLine) × (journal_in (held_of G after) ≡ journal_with (journal_in (held_of G before)) added)
+        → Since (G.deeds before) (G.deeds after) (KeptAsks (own_header (held_of G before)) (held_of G before) kept.Done)
         → (tally counted : Tally) → tally_counts counted ≡ record (tally_counts tally) { ran = tally.ran + 1 }
         → HasCommitted G seat now (end.Committed ((number + 1) % 2 ^ 64) told.steps) s n tally counted before after over.committed
-    went-done header opened closed more desk follows printed next_number tracks stood crash journal tally counted one_more_ran = record {
+    went-done header opened closed more desk follows printed next_number tracks stood crash journal asked tally counted one_more_ran = record {
       word = Fine;
       reads = λ counted page below. refl;
       next = fine;
@@ -126,6 +143,7 @@ module _ {W : Type 0} (G : Ghosts W) (s : SessionState) (seat : ℕ) (sound : Is
       ordered = sym order;
       why = inl refl;
       numbers = number-now number fine number_is refl;
+      deeds = asked;
       journal = λ still. journal;
       still = λ still. (tracks.sure, (over_new, is_new));
       crash = λ image seen left. either-side fine image refl (crash image seen left);
@@ -151,10 +169,10 @@ module _ {W : Type 0} (G : Ghosts W) (s : SessionState) (seat : ℕ) (sound : Is
         }
 
     pub went-doubt : n.closed ≡ true → n.order.items ≡ s.order.items ++ told ∷ [] → (tally : Tally) (gate : ℕ)
-        → Rose (G.disk_faults before) (G.disk_faults after) → Leaves G (IsEither lines (held_of G before)) before after
+        → Rose (G.disk_faults before) (G.disk_faults after) → Since (G.deeds before) (G.deeds after) (KeptAsks (own_header (held_of G before)) (held_of G before) kept.Doubt) → Leaves G (IsEither lines (held_of G before)) before after
         → Leaves G (λ image seen. stands (slice_set image gate 165) ≡ one_more lines (stands (held_of G before))) after after
         → HasCommitted G seat now (end.Closed (Some told.activation) ((number + 1) % 2 ^ 64)) s n tally tally before after over.committed
-    went-doubt closed more tally gate rose crash there = record {
+    went-doubt closed more tally gate rose asked crash there = record {
       word = Doubt;
       reads = λ counted page below. refl;
       next = next;
@@ -163,6 +181,7 @@ module _ {W : Type 0} (G : Ghosts W) (s : SessionState) (seat : ℕ) (sound : Is
       ordered = sym (order-more s.order.items n.order.items told (number_in (activity s).seating seat) ((sitter (activity s).seating seat).rows + 1) more activation steps);
       why = inr rose;
       numbers = (activation, number-now number next number_is refl);
+      deeds = asked;
       journal = λ still. absurd (let no : true ≡ false = sym closed ∙ still in cc (no));
       still = λ still. absurd (let no : true ≡ false = sym closed ∙ still in cc (no));
       crash = λ image seen left. either-side next image refl (crash image seen left);
@@ -173,9 +192,9 @@ module _ {W : Type 0} (G : Ghosts W) (s : SessionState) (seat : ℕ) (sound : Is
         next = record (ordered (session_desk s over.committed) (commit_call (activity s) seat over.committed (order_of s) now)) { closed = true }
 
   pub went-unwritten : (number : ℕ) → number ≡ store_number s.store → (n : SessionState) → n.closed ≡ true → order_of n ≡ order_of s → (tally : Tally)
-      → Rose (G.disk_faults before) (G.disk_faults after) → Leaves G (λ image seen. stands image ≡ stands (held_of G before)) before after
+      → Rose (G.disk_faults before) (G.disk_faults after) → Since (G.deeds before) (G.deeds after) (KeptAsks (own_header (held_of G before)) (held_of G before) kept.Unwritten) → Leaves G (λ image seen. stands image ≡ stands (held_of G before)) before after
       → HasCommitted G seat now (end.Closed None ((number + 1) % 2 ^ 64)) s n tally tally before after over.committed
-  went-unwritten number is n closed order tally rose crash = record {
+  went-unwritten number is n closed order tally rose asked crash = record {
     word = Unwritten;
     reads = λ counted page below. refl;
     next = record (session_desk s over.committed) { closed = true };
@@ -184,6 +203,7 @@ module _ {W : Type 0} (G : Ghosts W) (s : SessionState) (seat : ℕ) (sound : Is
     ordered = sym order;
     why = inr rose;
     numbers = ap (λ (n : ℕ). (n + 1) % 2 ^ 64) (is ∙ over.number);
+    deeds = asked;
     journal = λ still. absurd (let no : true ≡ false = sym closed ∙ still in cc (no));
     still = λ still. absurd (let no : true ≡ false = sym closed ∙ still in cc (no));
     crash = λ image seen left. inl (crash image seen left ∙ stood-over s (held_of G before) sound over);

@@ -2,10 +2,15 @@
 use Rattle.activations.specs.Follows.{AlwaysHolds}
 use Rattle.session.proofs.Common.{Activity, ◌≡◌, inl, ℕ, List, [], refl, sym, ◌∙◌, ap, Option, true, unwrap_or, Ghosts, Rose, IsSure, OnlyAsks, held_of, Header, Faulty, bank_of, stands, chosen, StoreView, store_number, TracksStore, shown_stands, shown_store, journal_in, TookEvent, told_event, fixed_of, session_view, Desk, numbers, Fine, Failed, number_after, Step, Crashed, CrashFailed, shut, restarted, stepped, IsRestarted, SessionState, IsSessionSound, activity, session_desk, order_of, IsOpenOver, arith}
 use Rattle.desk.specs.declared.event.Event.TheVariants as event
+use Rattle.desk.specs.Asked.{EventAsks}
+use Rattle.outside.proofs.DeedLemmas.{did_since}
+use Rattle.outside.specs.Deeds.{Deed, Did, DidSome, Synced}
+use Rattle.outside.specs.Runs.{AsksSo}
+use Rattle.std.proofs.Common.{◌∷◌}
 use Rattle.session.proofs.DidLemmas.{asked-stands, did-fail, fine-sure, over-other}
 
 -- a crash
-module _ {W : Type 0} (G : Ghosts W) (s : SessionState) (store : StoreView) (header : store.header ≡ s.store.header) (left : Activity) (holds : AlwaysHolds left) (sound : IsSessionSound s) (before after : W) (sure : IsSure G before) (over : IsOpenOver s (held_of G before)) (gone : IsRestarted (activity s) left over.committed) (asks : OnlyAsks G before after) where
+module _ {W : Type 0} (G : Ghosts W) {D : (before after : Option (List Deed)) → Type 0} (s : SessionState) (store : StoreView) (header : store.header ≡ s.store.header) (left : Activity) (holds : AlwaysHolds left) (sound : IsSessionSound s) (before after : W) (sure : IsSure G before) (over : IsOpenOver s (held_of G before)) (gone : IsRestarted (activity s) left over.committed) (asks : AsksSo G D before after) where
   abbrev forgotten : SessionState
   forgotten = record s { store = store; activations = left }
 
@@ -15,7 +20,7 @@ module _ {W : Type 0} (G : Ghosts W) (s : SessionState) (store : StoreView) (hea
   pub same_bytes : held_of G after ≡ held_of G before
   same_bytes = ap (λ (those : Option (List ℕ)). unwrap_or those []) asks.held
 
-  module _ (tracks : TracksStore G store after) where
+  module _ (tracks : TracksStore G store after) (did : Did (G.deeds before) (G.deeds after) (Synced ∷ [])) where
     pub number-same : store_number store ≡ store_number s.store
     number-same = grind (arith, (shown_stands (held_of G after) store tracks.shows).1, same_bytes, over.stood)
 
@@ -38,17 +43,18 @@ module _ {W : Type 0} (G : Ghosts W) (s : SessionState) (store : StoreView) (hea
       why = inl refl;
       closes = refl;
       ordered = refl;
+      deeds = did_since (EventAsks (held_of G before) (Crashed (numbers (session_desk s over.committed)))) (G.deeds before) (G.deeds after) (Synced ∷ []) did refl;
       still = λ still. (tracks.sure, record { over = over-forgotten; directory = directory-forgotten; frames = holds.frames; is = refl });
       journal = λ still. ap journal_in same_bytes;
       crash = λ image seen there. inl (asked-stands G s sound before after over sure asks image seen there);
       doubt = λ doubted. absurd (fine-sure doubted);
     }
 
-  abbrev pub did-fail-crash : Rose (G.disk_faults before) (G.disk_faults after)
+  abbrev pub did-fail-crash : Rose (G.disk_faults before) (G.disk_faults after) → DidSome (G.deeds before) (G.deeds after) (Synced ∷ [])
       → TookEvent G (told_event (fixed_of s) event.Crash (CrashFailed (numbers (session_desk s over.committed)))) (session_view (record forgotten { closed = true })) (session_desk s over.committed) before after
-  did-fail-crash rose =
+  did-fail-crash rose some =
       did-fail G s sound before after over (record forgotten { closed = true }) event.Crash (CrashFailed (numbers (session_desk s over.committed))) (shut (restarted (session_desk s over.committed))) refl refl refl
-      (stepped (activity s).programs event.Crash Failed (session_desk s over.committed) over.still_open) rose (asked-stands G s sound before after over sure asks)
+      (stepped (activity s).programs event.Crash Failed (session_desk s over.committed) over.still_open) rose some (asked-stands G s sound before after over sure asks)
 
 -- bytes that were its store's have no fault
 pub undamaged : (s : SessionState) (held : List ℕ) → IsOpenOver s held → (offset : ℕ) → bank_of held s.store.header (chosen held) ≡ Faulty offset → ⊥

@@ -1,6 +1,14 @@
 -- What the turns and the checkpoints of a session did.
 use Rattle.session.proofs.Common.{Activity, ◌≡◌, inl, inr, ℕ, List, refl, sym, ◌∙◌, ap, subst, arith, true, false, Ghosts, Rose, IsSure, Leaves, OnlyAsks, held_of, Header, Stands, stands, StoreView, store_number, Shows, TurnEnd, counts_told, ending_told, turn_told, TookEvent, told_event, fixed_of, session_view, standing_of, Desk, Fine, Failed, Doubt, Counts, JournalAfter, journal_in, Happening, Step, Turned, CheckpointMade, CheckpointFailed, step, turned, shut, stepped, Tally, tally_counts, KeepsDesk, SessionState, IsSessionSound, activity, order_of, session_desk, number_after, IsOpenOver, ShowsDesk, Takes, TurnHasRun, IsTurned, Turn}
+use Rattle.desk.specs.Asked.{EventAsks, own_header}
+use Rattle.outside.proofs.DeedLemmas.{did_since, since_as}
 use Rattle.outside.proofs.Durable.{leaves_held}
+use Rattle.outside.specs.Deeds.{Deed, Did, DidSome, IsCut, Since}
+use Rattle.outside.specs.Runs.{AsksSo}
+use Rattle.std.specs.Prelude.{Option}
+use Rattle.store.proofs.AskedLemmas.{checkpoint_shown}
+use Rattle.store.specs.Exact.{checkpoint_deeds}
+use Rattle.store_format.specs.Asked.{checkpoint_asks}
 use Rattle.session.proofs.JournalLemmas.{checkpoint-empties}
 use Rattle.desk.specs.declared.event.Event.{Event}
 use Rattle.desk.specs.declared.event.Event.TheVariants as event
@@ -49,6 +57,7 @@ module _ {W : Type 0} (G : Ghosts W) (s new : SessionState) (activation limit : 
         why = ran.why;
         closes = sym ran.closes;
         ordered = sym ran.ordered;
+        deeds = subst (λ (happening : Happening). Since (G.deeds before) (G.deeds after) (EventAsks (held_of G before) happening)) told ran.deeds;
         still = λ open_now. let now = ran.still (sym ran.closes ∙ open_now) in (now.0, record { over = now.1.0; directory = sound.directory; frames = sound.running.frames; is = now.1.1 });
         journal = λ open_now. subst (λ (happening : Happening). JournalAfter happening (journal_in (held_of G before)) (journal_in (held_of G after))) told (ran.journal (sym ran.closes ∙ open_now));
         crash = ran.crash;
@@ -69,20 +78,21 @@ over-other s store left held after header over number shows stood follows = reco
 
 module _ {W : Type 0} (G : Ghosts W) (s : SessionState) (sound : IsSessionSound s) (before after : W) (over : IsOpenOver s (held_of G before)) where
   -- while the disk was only asked, a crash left what stood
-  pub asked-stands : IsSure G before → OnlyAsks G before after → Leaves G (λ image seen. stands image ≡ standing_of s.opened (session_desk s over.committed)) before after
+  pub asked-stands : {D : (before after : Option (List Deed)) → Type 0} → IsSure G before → AsksSo G D before after → Leaves G (λ image seen. stands image ≡ standing_of s.opened (session_desk s over.committed)) before after
   asked-stands sure asks image seen left = cc (leaves_held G before sure image seen (asks.crash sure.told image seen left), stood-over s (held_of G before) sound over)
 
   -- an event at which the disk failed closed the desk
   abbrev pub did-fail : (n : SessionState) (event : Event) (told : Happening) (next : Desk) → n.closed ≡ true → next.closed ≡ true → order_of n ≡ next.order → step (activity s).programs event Failed (session_desk s over.committed) ≡ record { desk = next; happening = told }
-      → Rose (G.disk_faults before) (G.disk_faults after) → Leaves G (λ image seen. stands image ≡ standing_of s.opened (session_desk s over.committed)) before after
+      → Rose (G.disk_faults before) (G.disk_faults after) → Since (G.deeds before) (G.deeds after) (EventAsks (held_of G before) told) → Leaves G (λ image seen. stands image ≡ standing_of s.opened (session_desk s over.committed)) before after
       → TookEvent G (told_event (fixed_of s) event told) (session_view n) (session_desk s over.committed) before after
-  did-fail n event told next closed shut ordered is rose crash = record {
+  did-fail n event told next closed shut ordered is rose deeds crash = record {
     word = Failed;
     next = next;
     stepped = is;
     why = inr rose;
     closes = closed ∙ sym shut;
     ordered = ordered;
+    deeds = deeds;
     still = λ still. absurd (open-shut (sym shut ∙ still));
     journal = λ still. absurd (open-shut (sym shut ∙ still));
     crash = λ image seen left. inl (crash image seen left);
@@ -91,26 +101,32 @@ module _ {W : Type 0} (G : Ghosts W) (s : SessionState) (sound : IsSessionSound 
 
 -- a checkpoint
 module _ {W : Type 0} (G : Ghosts W) (s : SessionState) (store : StoreView) (sound : IsSessionSound s) (before after : W) (over : IsOpenOver s (held_of G before)) (crash : Leaves G (λ image seen. stands image ≡ stands (held_of G before)) before after) where
+  -- what it asks, by the bytes
+  pub checkpoint-asked : checkpoint_deeds s.store.bank (held_of G before) ≡ checkpoint_asks (own_header (held_of G before)) (held_of G before)
+  checkpoint-asked = checkpoint_shown (held_of G before) s.store over.shows ∙ ap (λ (header : Header). checkpoint_asks header (held_of G before)) (sym over.shows.header.said)
+
   pub either : Leaves G (λ image seen. stands image ≡ standing_of s.opened (session_desk s over.committed)) before after
   either image seen left = crash image seen left ∙ stood-over s (held_of G before) sound over
 
-  abbrev pub did-checkpoint : store.header ≡ s.store.header → store_number store ≡ store_number s.store → IsSure G after → Shows (held_of G after) store → stands (held_of G after) ≡ stands (held_of G before) → store.bank.count ≡ 0
+  abbrev pub did-checkpoint : store.header ≡ s.store.header → store_number store ≡ store_number s.store → IsSure G after → Shows (held_of G after) store → stands (held_of G after) ≡ stands (held_of G before) → store.bank.count ≡ 0 → Did (G.deeds before) (G.deeds after) (checkpoint_deeds s.store.bank (held_of G before))
       → TookEvent G (told_event (fixed_of s) event.Checkpoint CheckpointMade) (session_view (record s { store = store })) (session_desk s over.committed) before after
-  did-checkpoint header number sure shows stood none = record {
+  did-checkpoint header number sure shows stood none did = record {
     word = Fine;
     next = session_desk s over.committed;
     stepped = stepped (activity s).programs event.Checkpoint Fine (session_desk s over.committed) over.still_open;
     why = inl refl;
     closes = refl;
     ordered = refl;
+    deeds = did_since (EventAsks (held_of G before) CheckpointMade) (G.deeds before) (G.deeds after) (checkpoint_deeds s.store.bank (held_of G before)) did checkpoint-asked;
     still = λ still. (sure, record { over = over-other s store s.activations (held_of G before) (held_of G after) header over number shows stood over.follows; directory = ap (λ (said : Header). said.directory) header ∙ sound.directory; frames = sound.running.frames; is = refl });
     journal = λ still. checkpoint-empties s.store store (held_of G before) (held_of G after) over.shows shows header none;
     crash = λ image seen left. inl (either image seen left);
     doubt = λ doubted. absurd (fine-sure doubted);
   }
 
-  abbrev pub did-fail-checkpoint : Rose (G.disk_faults before) (G.disk_faults after)
+  abbrev pub did-fail-checkpoint : Rose (G.disk_faults before) (G.disk_faults after) → DidSome (G.deeds before) (G.deeds after) (checkpoint_deeds s.store.bank (held_of G before))
       → TookEvent G (told_event (fixed_of s) event.Checkpoint CheckpointFailed) (session_view (record s { store = store; closed = true })) (session_desk s over.committed) before after
-  did-fail-checkpoint rose =
+  did-fail-checkpoint rose some =
       did-fail G s sound before after over (record s { store = store; closed = true }) event.Checkpoint CheckpointFailed (shut (session_desk s over.committed)) refl refl refl
-      (stepped (activity s).programs event.Checkpoint Failed (session_desk s over.committed) over.still_open) rose either
+      (stepped (activity s).programs event.Checkpoint Failed (session_desk s over.committed) over.still_open) rose
+      (since_as (IsCut (checkpoint_deeds s.store.bank (held_of G before))) (EventAsks (held_of G before) CheckpointFailed) (G.deeds before) (G.deeds after) some (λ done cut. subst (λ (plan : List Deed). IsCut plan done) checkpoint-asked cut)) either

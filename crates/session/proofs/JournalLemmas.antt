@@ -6,8 +6,8 @@ use Rattle.store_format.specs.declared.header.Which.{Which}
 unfoldable use Rattle.store_format.specs.Bank.{holds_from}
 use Rattle.store_format.proofs.Walk.{closed_is, preceded_is, sound_is}
 use Rattle.store.specs.Kept.{BankView, area_end, end_of, needed_end, bank_number, bank_place, with_record}
-use Rattle.store.specs.Turned.{placed}
 use Rattle.store.proofs.AppendLemmas.{length-lines_from}
+use Rattle.store.proofs.AskedLemmas.{end_is, not_other, same_begun}
 use Rattle.store.specs.Chosen.{other}
 
 -- the closed gate stands behind the records
@@ -32,22 +32,6 @@ journal-of held store shows = record { page = store.header.directory.page; area 
 
 journal-shown : (held : List ℕ) (store : StoreView) (shows : Shows held store) → journal_in held ≡ journal-of held store shows
 journal-shown held store shows = grind (arith, (shown_store held store shows).said, (shown_store held store shows).chooses, (shown_store held store shows).holds)
-
--- no bank is the other one
-not-other : (which : Which) → which ≡ other which → ⊥
-not-other which same = grind arith
-
--- lines that are placed anew are as many
-length-placed : (page : PageSize) (at : ℕ) (lines : List RecordLine) → length (placed page at lines) ≡ length lines
-length-placed page at [] = refl
-length-placed page at (line ∷ lines) = let rest = length-placed page (at + entry_bytes page) lines in omega (arith, rest)
-
-same-begun : (page : PageSize) (at : ℕ) (begun : Option (List RecordLine)) → length (unwrap_or (option_map (placed page at) begun) []) ≡ length (unwrap_or begun [])
-same-begun page at begun = grind (arith, length-placed)
-
--- where an area ends
-end-is : (which : Which) (bytes : ℕ) → end_of which bytes ≡ bank_place which bytes + 8 + bytes
-end-is which bytes = grind arith
 
 room-by : (taken more area gate end need place : ℕ) → gate ≡ place + taken → end ≡ place + area → need ≡ gate + more + 1 → nat_lt (taken + more) area ≡ not (nat_lt end need)
 room-by taken more area gate end need place gate_is end_is need_is = grind (arith, nat_tests)
@@ -80,7 +64,7 @@ module _ (old new : StoreView) (held after : List ℕ) (was : Shows held old) (n
       ap (λ (n : ℕ). nat_lt n old.header.bank_bytes) more
       ∙ room-by (bytes_taken page was.read.records) (record_bytes page (length lines)) old.header.bank_bytes old.bank.gate (area_end old.bank) (needed_end old.bank) place
       (behind ∙ ap (λ (size : PageSize). place + bytes_taken size was.read.records) (sym was.fits.page))
-      (end-is old.bank.which old.bank.bank_bytes ∙ ap (λ (n : ℕ). place + n) (sym was.fits.bank_bytes))
+      (end_is old.bank.which old.bank.bank_bytes ∙ ap (λ (n : ℕ). place + n) (sym was.fits.bank_bytes))
       (ap (λ (size : PageSize). old.bank.gate + record_bytes size (length (begun_of old.bank)) + 1) (sym was.fits.page) ∙ ap (λ (n : ℕ). old.bank.gate + record_bytes page n + 1) (sym same))
 
   abbrev IsAdded : Type 0
@@ -100,13 +84,13 @@ module _ (old new : StoreView) (held after : List ℕ) (was : Shows held old) (n
   by-room : (full : Bool) → nat_lt (area_end old.bank) (needed_end old.bank) ≡ full → new.bank ≡ with_record (if full then emptied old.bank else old.bank) → HoldsCommitted old.header old.bank was.read.records after → IsAdded
   by-room false full kept (inl (inl holds)) = absurd (omega (arith, ap length (these old.bank.which old.bank.base was.read.records holds), now.read.count, was.read.count, ap (λ (bank : BankView). bank.count) kept))
   by-room false full kept (inl (inr holds)) = by-records (begun_of old.bank) true refl (ap not full) (these old.bank.which old.bank.base (was.read.records ++ begun_of old.bank ∷ []) holds)
-  by-room false full kept (inr (inl holds)) = absurd (not-other old.bank.which (sym (ap (λ (bank : BankView). bank.which) kept) ∙ chooses (other old.bank.which) (bank_number old.bank) [] holds))
-  by-room false full kept (inr (inr holds)) = absurd (not-other old.bank.which (sym (ap (λ (bank : BankView). bank.which) kept) ∙ chooses (other old.bank.which) (bank_number old.bank) (begun_of (emptied old.bank) ∷ []) holds))
-  by-room true full kept (inl (inl holds)) = absurd (not-other old.bank.which (sym (chooses old.bank.which old.bank.base was.read.records holds) ∙ ap (λ (bank : BankView). bank.which) kept))
-  by-room true full kept (inl (inr holds)) = absurd (not-other old.bank.which (sym (chooses old.bank.which old.bank.base (was.read.records ++ begun_of old.bank ∷ []) holds) ∙ ap (λ (bank : BankView). bank.which) kept))
+  by-room false full kept (inr (inl holds)) = absurd (not_other old.bank.which (sym (ap (λ (bank : BankView). bank.which) kept) ∙ chooses (other old.bank.which) (bank_number old.bank) [] holds))
+  by-room false full kept (inr (inr holds)) = absurd (not_other old.bank.which (sym (ap (λ (bank : BankView). bank.which) kept) ∙ chooses (other old.bank.which) (bank_number old.bank) (begun_of (emptied old.bank) ∷ []) holds))
+  by-room true full kept (inl (inl holds)) = absurd (not_other old.bank.which (sym (chooses old.bank.which old.bank.base was.read.records holds) ∙ ap (λ (bank : BankView). bank.which) kept))
+  by-room true full kept (inl (inr holds)) = absurd (not_other old.bank.which (sym (chooses old.bank.which old.bank.base (was.read.records ++ begun_of old.bank ∷ []) holds) ∙ ap (λ (bank : BankView). bank.which) kept))
   by-room true full kept (inr (inl holds)) = absurd (omega (arith, ap length (these (other old.bank.which) (bank_number old.bank) [] holds), now.read.count, ap (λ (bank : BankView). bank.count) kept))
   by-room true full kept (inr (inr holds)) =
-      by-records (begun_of (emptied old.bank)) false (same-begun old.bank.page _ old.bank.begun) (ap not full) (these (other old.bank.which) (bank_number old.bank) (begun_of (emptied old.bank) ∷ []) holds)
+      by-records (begun_of (emptied old.bank)) false (same_begun old.bank.page _ old.bank.begun) (ap not full) (these (other old.bank.which) (bank_number old.bank) (begun_of (emptied old.bank) ∷ []) holds)
 
   -- a commit adds its record, which makes its own room
   pub commit-adds : new.bank ≡ with_record (roomy old.bank) → HoldsCommitted old.header old.bank was.read.records after → IsAdded

@@ -1,6 +1,8 @@
 -- A session that has just opened.
 use Rattle.session.proofs.Common.{◌≡◌, ℕ, ◌+◌, ◌^◌, List, [], length, take, sym, ◌∙◌, ap, arith, Option, false, unwrap_or, byte_count, Ghosts, OnlyAsks, held_of, header_of, most_lines, Stands, stands, StoreView, store_number, Shows, TracksStore, order_told, opened, desk_over, Begins, SessionState, activity, session_desk}
 use Rattle.activations.specs.Follows.{HasFrames}
+use Rattle.outside.specs.Deeds.{Deed}
+use Rattle.outside.specs.Runs.{AsksSo}
 use Rattle.std.proofs.Math.Nat.{mod-mod}
 use Rattle.store.proofs.StoodLemmas.{committed_in, committed-long, stood-store}
 use Rattle.session.specs.Opened.{HasStood, IsSessionOpened}
@@ -25,7 +27,7 @@ module _ (frames : ℕ) (s : SessionState) (made : IsMade frames s) where
       ∙ (λ i. record (desk_over (activity s) committed (order_told (sym made.no_order i))) { closed = sym made.still_open i })
 
   -- over a store that is tracked
-  pub made-opened : {W : Type 0} (G : Ghosts W) (old new : W) → OnlyAsks G old new → TracksStore G s.store new → IsSessionOpened G frames old new s
+  pub made-opened : {W : Type 0} (G : Ghosts W) {D : (before after : Option (List Deed)) → Type 0} (old new : W) → AsksSo G D old new → TracksStore G s.store new → IsSessionOpened G frames old new s
   made-opened G old new asks tracks =
       let same : held_of G new ≡ held_of G old = ap (λ (those : Option (List ℕ)). unwrap_or those []) asks.held in
       let committed : List ℕ = committed_in (held_of G new) s.store tracks.shows in

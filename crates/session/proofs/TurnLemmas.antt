@@ -1,5 +1,9 @@
 -- How a turn of a session ends: over what ran, and then its commit.
 use Rattle.session.proofs.Common.{Activity, arith, ap, sym, ◌∙◌, subst, inl, inr, ⊎_elim, has, Ghosts, Rose, IsSure, FewerLater, Leaves, OnlyAsks, held_of, leaves_on, Stands, stands, sure_on, Shows, TurnEnd, ending_told, HasNumbers, OnlyWrites, IsEitherOf, fine_step, standing_of, JournalAfter, journal_in, Turned, Desk, Active, DiskWord, Fine, ReadFailed, Doubt, Going, Over, no_counts, commits, turn, turn_of, turns, number_after, Step, turned, Reads, seat-told, told-found, stepped, number_in, seat_of, seat-found, Tally, entries, entry_in, desk_over, KeepsDesk, IsEndOfRows, IfWaits, HasEnded, tally_counts, IsAtCommit, commit_call, turn_in, SessionState, IsSessionSound, activity, order_of, session_desk, IsOpenOver, HasCommitted, TurnHasRun, IsCommitEnd, fine_desk, ◌≡◌, refl, ℕ, ◌+◌, ◌-◌, ◌*◌, ◌<◌, ◌≤◌, ◌⊎◌, true, false, List, [], Option, Some, None, unwrap_or, IsStoreOf}
+use Rattle.desk.specs.Asked.{EventAsks}
+use Rattle.desk.specs.Run.{Happening}
+use Rattle.outside.specs.Deeds.{Deed, Since}
+use Rattle.outside.proofs.DeedLemmas.{since_none}
 use Rattle.session.proofs.DidLemmas.{asked-stands, over-other}
 use Rattle.desk_law.proofs.Entries.{found-among}
 use Rattle.desk_law.proofs.InstructionStages.{reads-all}
@@ -48,6 +52,7 @@ module _ {W : Type 0} (G : Ghosts W) (fewer_later : FewerLater G) (s : SessionSt
     ordered = refl;
     why = inl refl;
     numbers = tt;
+    deeds = since_none (EventAsks (held_of G before) (Turned activation (tally_counts tally) (ending_told end.Idle s.printed))) (G.deeds before) (G.deeds mid) asks.deeds refl;
     journal = λ still. kept-journal;
     still = λ still. (sure_on G fewer_later before mid sure asks, (over-ran s.activations over.follows, refl));
     crash = λ image seen left. inl (asked image seen left);
@@ -72,8 +77,8 @@ module _ {W : Type 0} (G : Ghosts W) (fewer_later : FewerLater G) (s : SessionSt
     run-by : (word : DiskWord) (how : TurnEnd) → (word ≡ Doubt → ⊥) → (word ≡ Fine) ⊎ Rose (G.disk_faults before) (G.disk_faults mid)
         → turn_in (activity s) seat limit over.committed (order_of s) (tally_counts tally) word ≡ Over (desk_over ran over.committed (order_of s)) (tally_counts told) (ending_told how s.printed)
         → KeepsDesk ran over.committed → HasNumbers how activation (number_after s.opened (desk_over ran over.committed (order_of s)))
-        → JournalAfter (Turned activation (tally_counts told) (ending_told how s.printed)) (journal_in (held_of G before)) (journal_in (held_of G mid)) → TurnHasRun G activation limit how s now told before mid over.committed
-    run-by word how sober why comes follows numbers quiet = record {
+        → JournalAfter (Turned activation (tally_counts told) (ending_told how s.printed)) (journal_in (held_of G before)) (journal_in (held_of G mid)) → EventAsks (held_of G before) (Turned activation (tally_counts told) (ending_told how s.printed)) [] → TurnHasRun G activation limit how s now told before mid over.committed
+    run-by word how sober why comes follows numbers quiet silent = record {
       word = word;
       next = desk_over ran over.committed (order_of s);
       step = turn-is word ∙ comes;
@@ -81,6 +86,7 @@ module _ {W : Type 0} (G : Ghosts W) (fewer_later : FewerLater G) (s : SessionSt
       ordered = refl;
       why = why;
       numbers = numbers;
+      deeds = since_none (EventAsks (held_of G before) (Turned activation (tally_counts told) (ending_told how s.printed))) (G.deeds before) (G.deeds mid) asks.deeds silent;
       journal = λ still. quiet;
       still = λ still. (sure_on G fewer_later before mid sure asks, (over-ran ran follows, sym (open-desk now over.committed over.still_open)));
       crash = λ image seen left. inl (asked image seen left);
@@ -88,19 +94,19 @@ module _ {W : Type 0} (G : Ghosts W) (fewer_later : FewerLater G) (s : SessionSt
     }
 
     fine : (how : TurnEnd) → IsOverTurn (turn_in (activity s) seat limit over.committed (order_of s) (tally_counts tally)) ran over.committed (order_of s) (tally_counts told) (ending_told how s.printed)
-        → HasNumbers how activation (number_after s.opened (desk_over ran over.committed (order_of s))) → JournalAfter (Turned activation (tally_counts told) (ending_told how s.printed)) (journal_in (held_of G before)) (journal_in (held_of G mid)) → TurnHasRun G activation limit how s now told before mid over.committed
-    fine how ended numbers quiet = run-by Fine how (λ doubted. let no : ⊥ = cc in no) (inl refl) (ended.comes Fine (reads-all told.pages)) ended.follows numbers quiet
+        → HasNumbers how activation (number_after s.opened (desk_over ran over.committed (order_of s))) → JournalAfter (Turned activation (tally_counts told) (ending_told how s.printed)) (journal_in (held_of G before)) (journal_in (held_of G mid)) → EventAsks (held_of G before) (Turned activation (tally_counts told) (ending_told how s.printed)) [] → TurnHasRun G activation limit how s now told before mid over.committed
+    fine how ended numbers quiet silent = run-by Fine how (λ doubted. let no : ⊥ = cc in no) (inl refl) (ended.comes Fine (reads-all told.pages)) ended.follows numbers quiet silent
 
     -- it ended before its commit call
     pub ended : (how : TurnEnd) → IsEndOfRows G before mid tally told how → IfWaits (number_in (activity s).seating seat) how
         → HasEnded how (turn_in (activity s) seat limit over.committed (order_of s) (tally_counts tally)) ran over.committed (order_of s) (tally_counts told)
         → TurnHasRun G activation limit how s now told before mid over.committed
-    ended end.Disk rows waits has = run-by (ReadFailed told.pages) end.Disk (λ doubted. let no : ⊥ = cc in no) (inr rows.0) has.comes has.follows tt kept-journal
-    ended end.Limit rows waits has = fine end.Limit (has s.printed) tt kept-journal
-    ended (end.Checked code address) rows waits has = fine (end.Checked code address) (has s.printed) tt kept-journal
-    ended (end.Waits waiter holders) rows waits has = fine (end.Waits waiter holders) (has s.printed) (waits.0 ∙ found.1) kept-journal
-    ended end.Victim rows waits has = fine end.Victim (has s.printed) tt kept-journal
-    ended (end.Journal lines most) rows waits has = fine (end.Journal lines most) (has s.printed) tt kept-journal
+    ended end.Disk rows waits has = run-by (ReadFailed told.pages) end.Disk (λ doubted. let no : ⊥ = cc in no) (inr rows.0) has.comes has.follows tt kept-journal refl
+    ended end.Limit rows waits has = fine end.Limit (has s.printed) tt kept-journal refl
+    ended (end.Checked code address) rows waits has = fine (end.Checked code address) (has s.printed) tt kept-journal refl
+    ended (end.Waits waiter holders) rows waits has = fine (end.Waits waiter holders) (has s.printed) (waits.0 ∙ found.1) kept-journal refl
+    ended end.Victim rows waits has = fine end.Victim (has s.printed) tt kept-journal refl
+    ended (end.Journal lines most) rows waits has = fine (end.Journal lines most) (has s.printed) tt kept-journal refl
     ended _ rows waits has = absurd rows
 
     -- it came to its commit call
@@ -136,6 +142,12 @@ module _ {W : Type 0} (G : Ghosts W) (fewer_later : FewerLater G) (s : SessionSt
         ordered = went.ordered;
         why = ⊎_elim (λ fine. inl fine) (λ rose. inr (subst (λ (n : ℕ). Rose n (G.disk_faults after)) calm rose)) went.why;
         numbers = subst (λ (n : ℕ). HasNumbers how n (number_after s.opened went.next)) (number ∙ found.1) went.numbers;
+        deeds =
+            let happened : ℕ → Happening = λ (n : ℕ). Turned n (tally_counts counted) (ending_told how new.printed) in
+            let same : held_of G mid ≡ held_of G before = ap (λ (those : Option (List ℕ)). unwrap_or those []) asks.held in
+            subst (λ (held : List ℕ). Since (G.deeds before) (G.deeds after) (EventAsks held (happened activation))) same
+            (subst (λ (those : Option (List Deed)). Since those (G.deeds after) (EventAsks (held_of G mid) (happened activation))) asks.deeds
+            (subst (λ (n : ℕ). Since (G.deeds mid) (G.deeds after) (EventAsks (held_of G mid) (happened n))) (number ∙ found.1) went.deeds));
         journal = λ still.
             subst (λ j. JournalAfter (Turned activation (tally_counts counted) (ending_told how new.printed)) j (journal_in (held_of G after))) kept-journal
             (subst (λ (n : ℕ). JournalAfter (Turned n (tally_counts counted) (ending_told how new.printed)) (journal_in (held_of G mid)) (journal_in (held_of G after))) (number ∙ found.1) (went.journal still));

@@ -5,6 +5,7 @@ use Rattle.store_format.specs.Bank.{RecordLine}
 use Rattle.store.specs.declared.keep.Kept.{Kept}
 use Rattle.store.specs.declared.keep.Kept.TheVariants as kept
 use Rattle.store.specs.Appended.{FailedLeaves}
+use Rattle.store.specs.Exact.{CommitsDeeds}
 use Rattle.store.specs.Kept.{begun_of, with_record}
 use Rattle.store.specs.Tracks.{IsEither}
 use Rattle.store.specs.Committed.{roomy, IsKeptAfter}
@@ -86,6 +87,7 @@ pub record IsFailedCommit {W : Type 0} (G : Ghosts W) (answer : Kept) (old new :
   pub kept : IsKeptAfter answer (roomy old.bank) old.bank new.bank
   pub crash : TracksStore G old before → Leaves G (IsEither (begun_of old.bank) (held_of G before)) before after
   pub left : TracksStore G old before → FailedLeaves G old.bank (roomy old.bank) before after answer
+  pub deeds : TracksStore G old before → CommitsDeeds (G.deeds before) (G.deeds after) (roomy old.bank) old.bank (held_of G before) answer
 
 -- Up to a moment the disk was only asked, and its count stayed. From then on all is as `Durable::commit` promises where it answers so, of a record of the
 -- lines that an activation holds to write: the count rose in it. The activation sits there still.

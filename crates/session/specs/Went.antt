@@ -1,6 +1,8 @@
 -- What a commit and a turn of a session did: the step of the desk, and what the disk held at each moment.
 use Rattle.std.specs.Prelude.{◌≡◌, ◌↔◌, ℕ, ◌+◌, ◌≤◌, ◌⊎◌, true, false, List, None, slice_set}
 use Rattle.flat_machine.specs.declared.machine.Plain.{Plain}
+use Rattle.desk.specs.Asked.{EventAsks}
+use Rattle.outside.specs.Deeds.{Since}
 use Rattle.session.specs.Below.{commit_call, commits, Desk, Doubt, ended, ending_told, FailsCounted, Fine, fine_step, Ghosts, HasNumbers, held_of, IfJournal, IsAtCommit, IsEitherOf, IsSure, journal_in, JournalAfter, Leaves, most_lines, number_after, number_in, store_number, OnlyWrites, ordered, Over, Reads, Rose, seat_of, standing_of, stands, Tally, tally_counts, ToldAfterEnd, turn, turn_fails, Turned, TurnEnd, Turning, DiskWord, writes_due, WritesMore}
 use Rattle.desk.specs.declared.answers.TurnEnd.TheVariants as end
 use Rattle.desk.specs.declared.event.Event.TheVariants as event
@@ -33,7 +35,7 @@ abbrev pub IsEitherSide : SessionState → (committed : List ℕ) → (fine new 
 IsEitherSide old committed fine new image =
     (stands image ≡ standing_of old.opened (session_desk old committed)) ⊎ (fine.order ≡ new.order) × (stands image ≡ standing_of old.opened fine)
 
--- A commit was what becomes of the commit call with a word, which isn't fine only where the disk's faults rose. While the session is
+-- A commit was what becomes of the commit call with a word, which isn't fine only where the disk's faults rose, and asked of the disk what it asks. While the session is
 -- open its bytes are sure, and their journal has one record more. A crash in it leaves what stood before or after it; after a doubt
 -- there is one place with whose byte the commit stands.
 pub record HasCommitted {W : Type 0} (G : Ghosts W) (seat : ℕ) (now : Plain) (end : TurnEnd) (old new : SessionState) (tallied told : Tally) (before after : W) (committed : List ℕ) : Type 0 where
@@ -45,6 +47,7 @@ pub record HasCommitted {W : Type 0} (G : Ghosts W) (seat : ℕ) (now : Plain) (
   pub ordered : next.order ≡ order_of new
   pub why : (word ≡ Fine) ⊎ Rose (G.disk_faults before) (G.disk_faults after)
   pub numbers : HasNumbers end (number_in (activity old).seating seat) (number_after old.opened next)
+  pub deeds : Since (G.deeds before) (G.deeds after) (EventAsks (held_of G before) (Turned (number_in (activity old).seating seat) (tally_counts told) (ending_told end new.printed)))
   pub journal : new.closed ≡ false → JournalAfter (Turned (number_in (activity old).seating seat) (tally_counts told) (ending_told end new.printed)) (journal_in (held_of G before)) (journal_in (held_of G after))
   pub still : new.closed ≡ false → IsSure G after × ((over : IsOpenOver new (held_of G after)) × (next ≡ session_desk new over.committed))
   pub crash : Leaves G (λ image seen. IsEitherSide old committed (fine_desk old committed seat now) next image) before after
@@ -66,6 +69,7 @@ pub record TurnHasRun {W : Type 0} (G : Ghosts W) (activation limit : ℕ) (end 
   pub ordered : next.order ≡ order_of new
   pub why : (word ≡ Fine) ⊎ Rose (G.disk_faults before) (G.disk_faults after)
   pub numbers : HasNumbers end activation (number_after old.opened next)
+  pub deeds : Since (G.deeds before) (G.deeds after) (EventAsks (held_of G before) (Turned activation (tally_counts told) (ending_told end new.printed)))
   pub journal : new.closed ≡ false → JournalAfter (Turned activation (tally_counts told) (ending_told end new.printed)) (journal_in (held_of G before)) (journal_in (held_of G after))
   pub still : new.closed ≡ false → IsSure G after × ((over : IsOpenOver new (held_of G after)) × (next ≡ session_desk new over.committed))
   pub crash : Leaves G (λ image seen. IsEitherOf (activity old).programs old.opened (event.Turn activation limit) (session_desk old committed) next image) before after

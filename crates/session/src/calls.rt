@@ -79,7 +79,7 @@ impl Session {
         }
     }
 
-    /// A crash: it forgets all that isn't on the disk, and reads the store again. It only asks the disk.
+    /// A crash: it forgets all that isn't on the disk, and reads the store again. It asks one sync of the disk.
     pub fn forget<W: Outside>(&mut self, outside: &mut W) -> Reopened
         requires bytes { HoldsStore W.Outside (fixed_of self.old).header outside.old }
         ensures { SessionCrash W.Outside self.old self.new outside.old outside.new result }

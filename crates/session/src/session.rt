@@ -1,6 +1,7 @@
 // A session over a store that is open.
 ghost use Rattle.std.specs.Prelude.{◌≡◌, ◌≢◌, ◌≤◌, ◌<◌, ◌^◌, ◌-◌, IfOk, IfErr, OnOk};
-ghost use Rattle.session.specs.Below.{OnlyAsks};
+ghost use Rattle.outside.specs.Deeds.{SyncsBy};
+ghost use Rattle.outside.specs.Runs.{AsksSo};
 ghost use Rattle.store.specs.Faults.{IsStoreOpenFault};
 
 use activations::Activations;
@@ -46,7 +47,7 @@ impl Session {
     ghost use Rattle.session.specs.Opened.{MadeBy};
 
     /// A session over the store that the disk holds, with so many frames for its pages, for so many begins of these programs.
-    /// It only asks the disk, and reads no home line.
+    /// It asks one sync of the disk, and reads no home line.
     ///
     /// # Errors
     ///
@@ -61,7 +62,7 @@ impl Session {
         requires frames { 2 ≤ frames }
         requires few { frames ≤ 1024 }
         requires begins { begins < 2 ^ 32 - 1 }
-        ensures asks { OnlyAsks W.Outside outside.old outside.new }
+        ensures asks { AsksSo W.Outside (SyncsBy result) outside.old outside.new }
         ensures unfailed { OnOk result (W.disk_faults outside.new ≡ W.disk_faults outside.old) }
         ensures fault { IfErr result (IsStoreOpenFault W.Outside outside.old outside.new) }
         ensures calm { IfErr result (λ fault. fault ≢ OpenFault.DiskFault → W.disk_faults outside.new ≡ W.disk_faults outside.old) }

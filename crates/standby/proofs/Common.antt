@@ -20,7 +20,7 @@ pub use Rattle.outside.proofs.Prints.{prints_none, prints_on, prints_same, print
 pub use Rattle.outside.proofs.Runs.{asks_none, asks_on, elapses-trans, leaves_on}
 pub use Rattle.outside.proofs.Shows.{shows_asks, shows_none, shows_on, shows_puts}
 pub use Rattle.outside.specs.Durable.{IsSure}
-pub use Rattle.outside.specs.Runs.{AsksAndPuts, CallsDisk, FewerLater, Leaves, OnlyAsks, held_of}
+pub use Rattle.outside.specs.Runs.{AsksAndPuts, CallsDisk, FewerLater, Leaves, OnlyAsks, OnlyOpens, held_of}
 pub use Rattle.store.specs.Kept.{BankView, begun_of, record_bytes_of, with_line, with_record}
 pub use Rattle.store.specs.Records.{IsCounted, IsRecordAt, area_bytes}
 pub use Rattle.store.specs.Tracks.{IsEither}

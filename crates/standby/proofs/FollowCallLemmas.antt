@@ -1,5 +1,5 @@
 -- A call over an opening that follows a text.
-use Rattle.standby.proofs.Common.{nat_tests, ◌≡◌, inl, inr, ℕ, ◌+◌, ◌-◌, ◌^◌, ◌<◌, ◌≤◌, List, [], ◌++◌, length, refl, sym, ◌∙◌, ap, subst, arith, IsSome, IsTrue, ◌⊎◌, Option, Result, unwrap_or, take_all, length-drop, Ghosts, Prints, FewerLater, Leaves, OnlyAsks, held_of, leaves_on, OpenFault, IsStoreOpenFault, StoreView, store_number, Shows, TracksStore, IsTextNumber, behind, due, laid_by, ShipContent, ShipLine, later, call, status_of_open, Status, FlatStore, Elapses, prints_on, prints_same, prints_unput, BankView, shown_stands, bank_behind, Follows, IsAtNumber, broken, followed_text, kept_text, well, Followed, Stands, stands, Done, DiskFault, PutFault}
+use Rattle.standby.proofs.Common.{nat_tests, ◌≡◌, inl, inr, ℕ, ◌+◌, ◌-◌, ◌^◌, ◌<◌, ◌≤◌, List, [], ◌++◌, length, refl, sym, ◌∙◌, ap, subst, arith, IsSome, IsTrue, ◌⊎◌, Option, Result, unwrap_or, take_all, length-drop, Ghosts, Prints, FewerLater, Leaves, OnlyOpens, held_of, leaves_on, OpenFault, IsStoreOpenFault, StoreView, store_number, Shows, TracksStore, IsTextNumber, behind, due, laid_by, ShipContent, ShipLine, later, call, status_of_open, Status, FlatStore, Elapses, prints_on, prints_same, prints_unput, BankView, shown_stands, bank_behind, Follows, IsAtNumber, broken, followed_text, kept_text, well, Followed, Stands, stands, Done, DiskFault, PutFault}
 use Rattle.standby.proofs.PutLemmas.{PrintedNow}
 use Rattle.store_format.proofs.Sound.{stood_header}
 use Rattle.standby.proofs.TellLemmas.{told_front}
@@ -24,7 +24,7 @@ last_is content number start few among =
     moved : (start number all : ℕ) → start < 2 ^ 64 → number < 2 ^ 64 → behind start number ≤ all → later number (all - behind start number) ≡ later start all
     moved start number all less few le = omega (arith, less, few, le)
 
-module _ {W : Type 0} (G : Ghosts W) (fewer_later : FewerLater G) (printed_now : PrintedNow G) (content : ShipContent) (before mid : W) (asks : OnlyAsks G before mid) where
+module _ {W : Type 0} (G : Ghosts W) (fewer_later : FewerLater G) (printed_now : PrintedNow G) (content : ShipContent) (before mid : W) (asks : OnlyOpens G before mid) where
   -- a crash in the opening leaves an image of the start
   opening_crash : IsSome (G.held before) → Leaves G (IsOfStart G before) before mid
   opening_crash told image seen left = let since = asks.crash told image seen left in (since, printed_now before image seen since)

@@ -1,5 +1,5 @@
 -- What shipping the records of a store did.
-use Rattle.standby.proofs.Common.{◌≡◌, ◌⊎◌, ◌<◌, ◌≤◌, ℕ, List, [], inl, inr, ⊎_elim, refl, sym, ◌∙◌, ap, subst, Option, IsSome, IsTrue, Result, Ok, Err, unwrap_or, Ghosts, AreTold, FewerLater, OnlyAsks, held_of, AsksAndPuts, OpenFault, StoreView, store_number, IsStoreOpenFault, IsShown, Shows, TracksStore, behind, IsContent, ship_text, leaves_on, call, status_of_open, Status, cases_lt, RecordLine, Shipped, leaves_held, shows_asks, shows_on, arith, nat_tests}
+use Rattle.standby.proofs.Common.{◌≡◌, ◌⊎◌, ◌<◌, ◌≤◌, ℕ, List, [], inl, inr, ⊎_elim, refl, sym, ◌∙◌, ap, subst, Option, IsSome, IsTrue, Result, Ok, Err, unwrap_or, Ghosts, AreTold, FewerLater, OnlyOpens, held_of, AsksAndPuts, OpenFault, StoreView, store_number, IsStoreOpenFault, IsShown, Shows, TracksStore, behind, IsContent, ship_text, leaves_on, call, status_of_open, Status, cases_lt, RecordLine, Shipped, leaves_held, shows_asks, shows_on, arith, nat_tests}
 use Rattle.standby.proofs.PutLemmas.{PrintedNow, prints_by, quiet_by, quiet_is}
 use Rattle.standby.specs.Shipped.{ShipPrintsBy as PutsBy, ShipsBy, shipped}
 use Rattle.standby.proofs.ShipLemmas.{still_shown}
@@ -14,14 +14,14 @@ all_kept answer count far only other = ⊎_elim (λ less. absurd (other (only le
 
 module _ {W : Type 0} (G : Ghosts W) (printed_now : PrintedNow G) (from : ℕ) (before : W) where
   -- the store isn't opened
-  pub not_shipped : (mid : W) → OnlyAsks G before mid → (fault : OpenFault) (now : Status) → now ≡ status_of_open fault → IsStoreOpenFault G before mid fault → ((fault ≡ open_fault.DiskFault → ⊥) → G.disk_faults mid ≡ G.disk_faults before) → ShippedFrom G from (call before mid [] now)
+  pub not_shipped : (mid : W) → OnlyOpens G before mid → (fault : OpenFault) (now : Status) → now ≡ status_of_open fault → IsStoreOpenFault G before mid fault → ((fault ≡ open_fault.DiskFault → ⊥) → G.disk_faults mid ≡ G.disk_faults before) → ShippedFrom G from (call before mid [] now)
   not_shipped mid asks fault now is why calm =
       record { no_order = refl; only = shows_asks G before mid asks; sure = λ honest told image seen left. inl (quiet_is G printed_now before mid asks.calls image seen left); calm = λ other. calm (λ failed. other (is ∙ ap status_of_open failed)); by_status = subst (ShippedBy G from before mid) (sym is) (by fault why) }
     where
       by : (fault : OpenFault) → IsStoreOpenFault G before mid fault → ShippedBy G from before mid (status_of_open fault)
       by fault why = grind (arith, nat_tests)
 
-  module _ (fewer_later : FewerLater G) (mid after : W) (asks : OnlyAsks G before mid) (store : StoreView) (shows : IsSome (G.held before) → Shows (held_of G before) store)
+  module _ (fewer_later : FewerLater G) (mid after : W) (asks : OnlyOpens G before mid) (store : StoreView) (shows : IsSome (G.held before) → Shows (held_of G before) store)
       (tracks : IsTrue (G.is_honest before) → IsSome (G.held before) → TracksStore G store mid) (only : AsksAndPuts G mid after) where
     -- what a crash leaves once something is printed was sure when the store had opened
     ended : (now : Status) → ((now ≡ status.DiskFault → ⊥) → G.disk_faults after ≡ G.disk_faults before) → ShippedBy G from before after now → ShippedFrom G from (call before after [] now)
@@ -64,4 +64,4 @@ module _ {W : Type 0} (G : Ghosts W) (printed_now : PrintedNow G) (from : ℕ) (
 
     pub none_kept : G.disk_faults after ≡ G.disk_faults before → (base number : ℕ) → after ≡ mid → base ≡ store.bank.base → number ≡ store_number store → store.bank.count < behind store.bank.base from → ShippedFrom G from (call before after [] (status.NotKept base number))
     none_kept calm base number same base_is number_is behind_all = ended (status.NotKept base number) (λ other. calm)
-        (subst (λ (now : W). OnlyAsks G before now) (sym same) asks, λ told. record { store = store; shows = shows told; base_is = base_is; number_is = number_is; behind_all = behind_all })
+        (subst (λ (now : W). OnlyOpens G before now) (sym same) asks, λ told. record { store = store; shows = shows told; base_is = base_is; number_is = number_is; behind_all = behind_all })

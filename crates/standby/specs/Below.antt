@@ -11,7 +11,7 @@ pub use Rattle.lines.specs.Segments.{line_bytes}
 pub use Rattle.outside.specs.Bytes.{AreTold, Prints}
 pub use Rattle.outside.specs.Causes.{FailsOnlyCounted, Rose}
 pub use Rattle.outside.specs.Moments.{Elapses, IsOnePut}
-pub use Rattle.outside.specs.Runs.{AsksAndPuts, held_of, Leaves, OnlyAsks, OnlyPuts}
+pub use Rattle.outside.specs.Runs.{AsksAndPuts, held_of, Leaves, OnlyAsks, OnlyOpens, OnlyPuts, OpensAndPuts}
 pub use Rattle.outside.specs.declared.failed.Failed.{Failed}
 pub use Rattle.outside.specs.declared.world.Outside.{Ghosts}
 pub use Rattle.store.specs.Appended.{IsUsable}

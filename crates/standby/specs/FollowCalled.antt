@@ -1,6 +1,6 @@
 -- What following a ship text did.
 use Rattle.std.specs.Prelude.{◌≡◌, ◌≢◌, ◌⊎◌, ℕ, ◌+◌, ◌≤◌, ◌<◌, List, [], length, IsSome, Result, MatchResult, OnOk, IfErr}
-use Rattle.standby.specs.Below.{Called, call, Elapses, FaultsBy, FlatStore, Ghosts, Given, held_of, IsFaultAt, IsOfOpening, IsOfStart, StoreView, Leaves, store_number, OnlyAsks, PrintsBy, RoomReads, Rose, Shows, Stands, stands, Status, TellsStore}
+use Rattle.standby.specs.Below.{Called, call, Elapses, FaultsBy, FlatStore, Ghosts, Given, held_of, IsFaultAt, IsOfOpening, IsOfStart, StoreView, Leaves, store_number, OnlyOpens, PrintsBy, RoomReads, Rose, Shows, Stands, stands, Status, TellsStore}
 use Rattle.outside.specs.Durable.{IsSure}
 use Rattle.outside.specs.declared.source.Source as source
 use Rattle.standby.specs.State.{bank_behind, AllFit, IsTextNumber, IsTooLong, due, state}
@@ -30,7 +30,7 @@ EndsOn G content number store before after status.Done =
 EndsOn G content number store before after status.PutFault =
     (count : ℕ) × (count ≤ length (due content number)) × IsSure G after × (stands (held_of G after) ≡ Stands (later number count) (state content number store count))
 EndsOn G content number store before after status.DiskFault =
-    ((at : StopsAt G content.line_bytes number store (due content number) before after) × (at.count < length (due content number))) ⊎ OnlyAsks G before after
+    ((at : StopsAt G content.line_bytes number store (due content number) before after) × (at.count < length (due content number))) ⊎ OnlyOpens G before after
 EndsOn G content number store before after _ = Unit {0}
 
 -- Where the bytes stand for a number and a store: each image that a crash leaves since is one of the start with nothing printed since, or stands for
@@ -68,7 +68,7 @@ OnStore G content before after (status.Stream place kind) = ((kind ≡ 2) ⊎ (k
 OnStore G content before after (status.NotKept first last) = IsSome (G.held before) → IsDue G content before (status.NotKept first last)
 OnStore G content before after status.Done = (IsSome (G.held before) → IsDue G content before status.Done) × FollowsOn G content before after status.Done
 OnStore G content before after status.PutFault = (IsSome (G.held before) → IsDue G content before status.PutFault) × FollowsOn G content before after status.PutFault
-OnStore G content before after status.DiskFault = (OnlyAsks G before after ⊎ (IsSome (G.held before) → IsDue G content before status.DiskFault)) × FollowsOn G content before after status.DiskFault
+OnStore G content before after status.DiskFault = (OnlyOpens G before after ⊎ (IsSome (G.held before) → IsDue G content before status.DiskFault)) × FollowsOn G content before after status.DiskFault
 OnStore G content before after _ = ⊥
 
 -- The source gave a ship text, whole, that holds this.
@@ -134,7 +134,7 @@ pub record FollowedFrom {W : Type 0} (G : Ghosts W) (given : Given) (call : Call
   pub calm : call.status ≢ status.DiskFault → G.disk_faults call.after ≡ G.disk_faults call.before
   pub put : call.status ≢ status.PutFault → G.put_faults call.after ≡ G.put_faults call.before
   pub read : call.status ≢ status.SourceFault → given.faults_now ≡ given.faults
-  pub refused : IsUncommitted call.status → OnlyAsks G call.before call.after
+  pub refused : IsUncommitted call.status → OnlyOpens G call.before call.after
   pub by_status : FollowedBy G given call.before call.after call.status
 
 -- a status of following

@@ -1,6 +1,6 @@
 -- What shipping the records of a store did.
 use Rattle.std.specs.Prelude.{◌≡◌, ◌≢◌, ◌⊎◌, ◌<◌, ◌≤◌, ℕ, [], IsSome, IsTrue}
-use Rattle.standby.specs.Below.{AreTold, AsksAndPuts, Called, Ghosts, held_of, IsFaultAt, IsOfOpening, StoreView, Leaves, store_number, OnlyAsks, PrintsBy, Shows, Status}
+use Rattle.standby.specs.Below.{AreTold, OpensAndPuts, Called, Ghosts, held_of, IsFaultAt, IsOfOpening, StoreView, Leaves, store_number, OnlyOpens, PrintsBy, Shows, Status}
 use Rattle.standby.specs.TextPut.{CountsPuts}
 use Rattle.standby.specs.Read.{feeds}
 use Rattle.standby.specs.Shipped.{shipped}
@@ -31,16 +31,16 @@ abbrev pub ShippedBy : {W : Type 0} → Ghosts W → ℕ → W → W → Status 
 ShippedBy G from before after status.Done = IsSome (G.held before) → PutsText G from before after status.Done
 ShippedBy G from before after status.PutFault = IsSome (G.held before) → PutsText G from before after status.PutFault
 ShippedBy G from before after status.DiskFault = (G.printed after ≡ G.printed before) ⊎ (IsSome (G.held before) → PutsText G from before after status.DiskFault)
-ShippedBy G from before after (status.NotKept base number) = OnlyAsks G before after × (IsSome (G.held before) → IsNotKept G from before base number)
-ShippedBy G from before after (status.Store offset) = OnlyAsks G before after × (IsSome (G.held before) → IsFaultAt (held_of G before) offset)
-ShippedBy G from before after status.NoMemory = OnlyAsks G before after
+ShippedBy G from before after (status.NotKept base number) = OnlyOpens G before after × (IsSome (G.held before) → IsNotKept G from before base number)
+ShippedBy G from before after (status.Store offset) = OnlyOpens G before after × (IsSome (G.held before) → IsFaultAt (held_of G before) offset)
+ShippedBy G from before after status.NoMemory = OnlyOpens G before after
 ShippedBy G from before after _ = ⊥
 
 -- What it did; it writes nothing, each image that a crash may leave since is one of the start, and there is no order. Where the disk is honest and
 -- tells its bytes, each that is left once something is printed is just these. The disk's count of faults rises with DiskFault alone.
 pub record ShippedFrom {W : Type 0} (G : Ghosts W) (from : ℕ) (call : Called W) : Type 0 where
   pub no_order : call.order ≡ []
-  pub only : AsksAndPuts G call.before call.after
+  pub only : OpensAndPuts G call.before call.after
   pub sure : IsTrue (G.is_honest call.before) → IsSome (G.held call.before) → Leaves G (λ image seen. AreTold (G.printed call.before) seen ⊎ (image ≡ held_of G call.before)) call.before call.after
   pub calm : call.status ≢ status.DiskFault → G.disk_faults call.after ≡ G.disk_faults call.before
   pub by_status : ShippedBy G from call.before call.after call.status

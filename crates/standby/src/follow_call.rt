@@ -1,5 +1,5 @@
 // A ship text that a store follows.
-ghost use Rattle.standby.specs.Below.{Elapses, given, OnlyAsks};
+ghost use Rattle.standby.specs.Below.{Elapses, given, OnlyOpens};
 ghost use Rattle.standby.specs.Text.{IsShip, ship_content};
 ghost use Rattle.standby.specs.FollowCalled.{EndsFollowing, FollowsFrom, GivesShip, IsUncommitted, OnStore};
 
@@ -49,7 +49,7 @@ fn follow_text<W: Outside>(alloc: Global, ship: &Ship, outside: &mut W) -> Statu
     requires { IsShip ship.now }
     ensures on { OnStore W.Outside (ship_content ship.now) outside.old outside.new result }
     ensures time { Elapses W.moment W.left_since outside.old outside.new }
-    ensures refused { IsUncommitted result → OnlyAsks W.Outside outside.old outside.new }
+    ensures refused { IsUncommitted result → OnlyOpens W.Outside outside.old outside.new }
     ensures ends { EndsFollowing W.Outside outside.old outside.new result }
 {
     let mut store = match Durable::open(alloc, outside) {

@@ -2,6 +2,7 @@
 use Rattle.store.proofs.Common.{◌≡◌, inl, inr, ℕ, zero, suc, ◌+◌, ◌*◌, ◌-◌, ◌%◌, ◌^◌, ◌<◌, ◌≤◌, true, false, List, [], ◌∷◌, ◌++◌, length, take, drop, refl, sym, ◌∙◌, ap, subst, arith, slice_index, slice_set, option_map, drop-drop, take_all, take-set-le, drop-set-lt, length-set, get_or-set_same, length-take-le, line_count, PageSize, Which, Header, number_at, home_at, bank_at, entry_bytes, RecordLine, lines_from, wrong_line, record_bytes, area_of, IsStore, stands, one_more, same_number_at, same_lines, same_byte, later_front, shorter_front, Around, area_within, store_same, stands_same, stands_more, store_more, Ghosts, held_of, Inside, is_open, HasBody, IsSafe, BankView, bank_place, end_of, area_end, begun_of, needed_end, with_record, noted, AreNewest, buffered, begun_count, begun_lines, kept_of, IsWholeBank, TracksBank, IsEither, HoldsOneOf, Option, None, Some, unwrap_or, IsSome, ◌==◌, nat_tests, cases_Bool}
 use Rattle.store_format.specs.Body.{IsBody}
 use Rattle.store_format.proofs.Stores as stores
+use Rattle.store.proofs.DeedLemmas.{whole}
 
 -- a store, and a body that adds these lines to it
 pub record Ready (held : List ℕ) (header : Header) (which : Which) (base gate : ℕ) (records : List (List RecordLine)) (count : ℕ) (lines : List RecordLine) (body : List ℕ) : Type 0 where
@@ -18,7 +19,7 @@ pub place_is : (header : Header) (which : Which) (bytes : ℕ) → header.bank_b
 place_is header which bytes same = grind (arith, nat_tests)
 
 -- the body that was filled in is one
-body_of : (page : PageSize) (bound due gate count : ℕ) (old new : List ℕ) → 11 + entry_bytes page * count ≤ length old → length new ≡ length old → number_at new 0 2 ≡ count → number_at new 2 8 ≡ due
+pub body_of : (page : PageSize) (bound due gate count : ℕ) (old new : List ℕ) → 11 + entry_bytes page * count ≤ length old → length new ≡ length old → number_at new 0 2 ≡ count → number_at new 2 8 ≡ due
     → take (entry_bytes page * count) (drop 10 new) ≡ take (entry_bytes page * count) (drop 10 old) → slice_index new (10 + entry_bytes page * count) ≡ 0
     → wrong_line bound 0 (lines_from page count (gate + 11) (drop 10 old)) ≡ None
     → IsBody page bound due gate count (lines_from page count (gate + 11) (drop 10 old)) (take (11 + entry_bytes page * count) new)

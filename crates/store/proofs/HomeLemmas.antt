@@ -1,8 +1,12 @@
 -- Bytes that stay, and newest bytes that are written home.
+use Rattle.std.specs.Prelude.{◌∷◌, []}
 use Rattle.store.proofs.Common.{◌≡◌, inl, inr, ℕ, ◌+◌, ◌*◌, ◌-◌, ◌<◌, ◌≤◌, List, length, take, drop, refl, sym, ◌∙◌, ap, subst, arith, Option, None, Some, fold, drop-drop, take_at, length-drop, length-take-le, line_count, PageSize, Which, Header, home_at, bank_at, BankView, end_of, line_bytes_of, RecordLine, IsStore, laid, home_of, shorter_front, rest_front, area_within, store_front, behind_bytes, bytes_at, written, Torn, torn_by_written, home_line, home_place, copied, TornLine, IsHomeOffset, IsHomeCovered, IsHomed, cases_lt, cases_eq, nat_tests, get_or-drop, same_byte, IsSameBut, IsApart, slice_index, store_big, newest_place, lines-below}
 use Rattle.lines.specs.Segments.{line_bytes}
 use Rattle.store.proofs.Newest.{bytes_of_line, newest_bytes, store_agrees, held_records, newest_within, same_lines}
 use Rattle.store.proofs.NoteLemmas.{drop-overlaid}
+use Rattle.store.specs.Below.{Wrote, copy_deeds}
+use Rattle.store.proofs.DeedLemmas.{whole}
+use Rattle.store.specs.Below.{Wrote, copy_deeds}
 
 pub same_behind : (k i : ℕ) (xs ys : List ℕ) → drop k xs ≡ drop k ys → k ≤ i → slice_index xs i ≡ slice_index ys i
 same_behind k i xs ys same after =
@@ -61,6 +65,13 @@ module _ (header : Header) (which : Which) (base gate : ℕ) (records : List (Li
       let records_there = held_records header.directory.page held bound (bank_at header which) header.bank_bytes gate records (omega (arith, (area_within header which).0, is.whole)) is.holds in
       let inside = newest_within header.directory.page bound (bank_at header which + 8 + header.bank_bytes) held line place records records_there there in
       omega (arith, inside, (area_within header which).0)
+
+  -- a copy of a line's newest bytes asks the same, whichever lines are at home already
+  pub copies_same : (start : List ℕ) → IsHomeCovered header records held start → (line : ℕ) (place : Option ℕ) → newest_place line records ≡ place → (width to : ℕ) → width ≡ line_bytes header.directory.page → copy_deeds width start place to ≡ copy_deeds width held place to
+  copies_same start covered line None there width to wide = refl
+  copies_same start covered line (Some at) there width to wide =
+      ap (λ (bytes : List ℕ). Wrote to bytes ∷ [])
+      (ap (λ (n : ℕ). bytes_at start at n) wide ∙ front_bytes header.directory.page held start (home_at header 0) at covered.front (placed line at there) ∙ sym (ap (λ (n : ℕ). bytes_at held at n) wide))
 
   module _ (start image : List ℕ) (covered : IsHomeCovered header records held start) (line place : ℕ) (below : line < bound) (there : newest_place line records ≡ Some place) (torn : Torn (home_at header line) (line_bytes header.directory.page) start image) where
     -- another line's home is as it was

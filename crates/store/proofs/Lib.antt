@@ -7,11 +7,14 @@ pub mod ReadLemmas
 pub mod RecordLemmas
 pub mod Newest
 pub mod WriteLemmas
+pub mod DeedLemmas
+pub mod CostLemmas
 pub mod TurnLemmas
 pub mod HomeLemmas
 pub mod MoveLemmas
 pub mod CommitLemmas
 pub mod ShowLemmas
+pub mod AskedLemmas
 pub mod Compose
 pub mod StoodLemmas
 pub mod Lemmas

@@ -1,4 +1,5 @@
 -- What a store shows of bytes, and what these stand for.
+use Rattle.store.specs.Below.{AsksSo, Deed}
 use Rattle.store.proofs.Common.{◌≡◌, ℕ, ◌+◌, ◌%◌, ◌^◌, ◌≤◌, List, length, take, sym, ◌∙◌, ap, subst, arith, IsSome, Option, None, fold, line_count, Header, number_at, header_of, total, PageSize, Stands, Damaged, stands, standing_if, standing_by, HasHeader, IsStore, chosen, laid, home_of, stands_is, not_less, OnlyAsks, FewerLater, held_of, IsChosen, HoldsCommitted, ReopenFault, IsStoreOpenFault, IsStoreReopenFault, StoreView, Fits, with_begun, Shows, IsStoreWith, IsFoundAgain, TracksStore, ShownStands, nat_tests, bank_in, RecordLine, Holds, Faulty, base_of, bank_of, IsSure, HoldsRecords, store_bytes, ⊎_elim, [], ◌∷◌, ◌++◌, refl, unwrap_or, other, emptied, HoldsOneOf}
 use Rattle.store.specs.KeptStore.{store_number}
 use Rattle.store_format.specs.declared.header.Which.{Which}
@@ -83,11 +84,11 @@ damaged_is held header which offset has chooses faulty =
     (ap (λ (b : Which). standing_by held header (base_of held header b) (bank_of held header b)) chooses ∙ ap (standing_by held header (base_of held header which)) faulty)
 
 -- bytes that are sure stay sure while the disk is only asked
-pub sure_on : {W : Type 0} (G : Ghosts W) (fewer_later : FewerLater G) (old new : W) → IsSure G old → OnlyAsks G old new → IsSure G new
+pub sure_on : {W : Type 0} (G : Ghosts W) {D : (before after : Option (List Deed)) → Type 0} (fewer_later : FewerLater G) (old new : W) → IsSure G old → AsksSo G D old new → IsSure G new
 sure_on G fewer_later old new sure asks = grind (arith, nat_tests)
 
 -- what is wrong with the chosen bank is wrong with the store
-pub opening_fault : {W : Type 0} (G : Ghosts W) (old mid new : W) (header : Header) (fault : OpenFault) → OnlyAsks G old mid → (IsSome (G.held old) → HasHeader (held_of G old) header) → IsBankOpenFault G mid new header (chosen (held_of G mid)) fault → IsStoreOpenFault G old new fault
+pub opening_fault : {W : Type 0} (G : Ghosts W) {D : (before after : Option (List Deed)) → Type 0} (old mid new : W) (header : Header) (fault : OpenFault) → AsksSo G D old mid → (IsSome (G.held old) → HasHeader (held_of G old) header) → IsBankOpenFault G mid new header (chosen (held_of G mid)) fault → IsStoreOpenFault G old new fault
 opening_fault G old mid new header (opening.Damaged offset) asks has is =
     λ told.
     let still : IsSome (G.held mid) = subst (λ (those : Option (List ℕ)). IsSome those) (sym asks.held) told in
@@ -96,7 +97,7 @@ opening_fault G old mid new header (opening.Damaged offset) asks has is =
 opening_fault G old mid new header _ asks has is = grind (arith, nat_tests)
 
 -- the same of a store that is reopened
-pub reopening_fault : {W : Type 0} (G : Ghosts W) (old mid new : W) (header : Header) (bank : BankView) (fault : ReopenFault) → Fits header bank → OnlyAsks G old mid → IsBankReopenFault G mid new (chosen (held_of G mid)) bank fault → IsStoreReopenFault G old new header fault
+pub reopening_fault : {W : Type 0} (G : Ghosts W) {D : (before after : Option (List Deed)) → Type 0} (old mid new : W) (header : Header) (bank : BankView) (fault : ReopenFault) → Fits header bank → AsksSo G D old mid → IsBankReopenFault G mid new (chosen (held_of G mid)) bank fault → IsStoreReopenFault G old new header fault
 reopening_fault G old mid new header bank fault fits asks is = grind (arith, nat_tests, bank_is)
 
 -- a store that is intact under a header has no fault in its bank

@@ -1,7 +1,8 @@
 -- Calls that write, one after another, and what a crash leaves of them.
-use Rattle.store.proofs.Common.{◌≡◌, ℕ, ◌+◌, ◌≤◌, List, length, ◌∙◌, ap, arith, length-append, ForSome, length-take, length-drop, Ghosts, Failed, Writes, CountsWrite, written, OnlyAsks, FewerLater, held_of, told_some, calls_none, calls_on, still_told, Option, Some, IsSome, IsTrue, Result, Ok, nat_tests, ⊎_elim, [], Elapses, LeavesStep, IsDurable, Leaves, IsSure, OnlyWrites, unwrap_or, IsMoreBy, WritesOnce}
+use Rattle.store.proofs.Common.{◌≡◌, ℕ, ◌+◌, ◌≤◌, List, ◌∷◌, length, ◌∙◌, ap, arith, length-append, ForSome, length-take, length-drop, Ghosts, Failed, Writes, CountsWrite, written, OnlyAsks, FewerLater, held_of, told_some, calls_none, calls_on, still_told, Option, Some, IsSome, IsTrue, Result, Ok, nat_tests, ⊎_elim, [], Elapses, LeavesStep, IsDurable, Leaves, IsSure, OnlyWrites, unwrap_or, IsMoreBy, WritesOnce}
 use Rattle.outside.specs.Causes.{CountsOwn}
 use Rattle.outside.specs.Moments.{CallsOnce, MayTear}
+use Rattle.store.specs.Below.{AsksSo, Carries, Deed, Wrote}
 
 pub more_on : (a b : ℕ) (old mid new : Option ℕ) → IsMoreBy a old mid → IsMoreBy b mid new → IsMoreBy (a + b) old new
 more_on a b old mid new first second before is = grind (arith, nat_tests, first)
@@ -27,13 +28,13 @@ module _ {W : Type 0} (G : Ghosts W) (fewer_later : FewerLater G) (old mid new :
   }
 
 -- calls that only ask
-pub asks_only : {W : Type 0} (G : Ghosts W) (old new : W) → OnlyAsks G old new → OnlyWrites G old new
+pub asks_only : {W : Type 0} (G : Ghosts W) {D : (before after : Option (List Deed)) → Type 0} (old new : W) → AsksSo G D old new → OnlyWrites G old new
 asks_only G old new asks = grind (arith, nat_tests, same_fewer)
 
 -- a call that writes
 pub once : {W : Type 0} (G : Ghosts W) {T : Type 0} (at : ℕ) (bytes : List ℕ) (old new : W) (result : Result T Failed) → Writes (G.held old) (G.held new) at bytes result → CountsWrite (G.writes old) (G.writes new) result
-    → CallsOnce G.printed G.is_honest G.moment G.left_since old new → MayTear G.held G.is_honest G.moment G.left_since at (length bytes) old new → CountsOwn G.disk_faults G.put_faults old new result → WritesOnce G at bytes old new result
-once G at bytes old new result written counted call crash counts = record {
+    → CallsOnce G.printed G.is_honest G.moment G.left_since old new → MayTear G.held G.is_honest G.moment G.left_since at (length bytes) old new → CountsOwn G.disk_faults G.put_faults old new result → Carries (G.deeds old) (G.deeds new) (Wrote at bytes ∷ []) result → WritesOnce G at bytes old new result
+once G at bytes old new result written counted call crash counts deeds = record {
   only = record {
     calls = record { quiet = call.quiet; honest = call.honest; time = call.time; disk = counts.cause.later; put = counts.other; puts = call.once.puts };
     told = λ told. still_told (G.held old) (G.held new) at bytes result told written;
@@ -44,6 +45,7 @@ once G at bytes old new result written counted call crash counts = record {
   counted = counted;
   crash = crash;
   cause = counts.cause;
+  deeds = deeds;
 }
 
 -- the bytes held are what a crash of now may leave
@@ -76,7 +78,7 @@ held_since G fewer_later held_now old new only told P leaves =
     leaves (held_of G new) now.0 (fewer_later new (G.moment old) (G.moment new) (held_of G new) now.0 only.calls.time.later now.1)
 
 -- the bytes held are the same after calls that only ask
-pub same_held : {W : Type 0} (G : Ghosts W) (old new : W) → OnlyAsks G old new → held_of G new ≡ held_of G old
+pub same_held : {W : Type 0} (G : Ghosts W) {D : (before after : Option (List Deed)) → Type 0} (old new : W) → AsksSo G D old new → held_of G new ≡ held_of G old
 same_held G old new asks = ap (λ (those : Option (List ℕ)). unwrap_or those []) asks.held
 
 -- what is held after a write that succeeded
@@ -84,5 +86,5 @@ pub written_held : {T : Type 0} (old new : Option (List ℕ)) (at : ℕ) (bytes 
 written_held old new at bytes done told writes = grind (arith, nat_tests)
 
 -- bytes are sure after a sync that succeeded
-pub synced_sure : {W : Type 0} (G : Ghosts W) (old new : W) → OnlyAsks G old new → IsTrue (G.is_honest old) → IsSome (G.held old) → IsDurable G.moment G.left_since G.held new → IsSure G new
+pub synced_sure : {W : Type 0} (G : Ghosts W) {D : (before after : Option (List Deed)) → Type 0} (old new : W) → AsksSo G D old new → IsTrue (G.is_honest old) → IsSome (G.held old) → IsDurable G.moment G.left_since G.held new → IsSure G new
 synced_sure G old new asks honest told durable = grind (arith, nat_tests)

@@ -7,6 +7,7 @@ use Rattle.store.specs.declared.keep.Appended.{Appended}
 use Rattle.store.specs.declared.keep.Appended.TheVariants as appending
 use Rattle.store.specs.Held.{HasBody, HoldsAtLeast, is_open, IsGateOpen, IsSafe, IsGateShut, OnlyWrites}
 use Rattle.store.specs.Kept.{BankView, SameShape, area_end, begun_of, line_bytes_of, needed_end, record_bytes_of, spoilt, with_record}
+use Rattle.store.specs.Exact.{KeepsDeeds, KeepsRecord}
 use Rattle.store.specs.Tracks.{TracksBank, IsEither, HoldsOneOf, IsAppended}
 
 -- A line may be added to the record that is begun: it is a line of the store, above those before it, and with it the record and a gate behind it fit an area.
@@ -57,6 +58,7 @@ pub record KeepsBody {W : Type 0} (G : Ghosts W) (gate : ℕ) (body : List ℕ) 
   pub done : answer ≡ Done → IsGateShut G gate before → IsGateOpen G gate body before after
   pub writes : answer ≡ Done → G.writes after ≡ option_map (λ count. count + 2) (G.writes before)
   pub counted : CountsKept G before after answer
+  pub deeds : KeepsDeeds (G.deeds before) (G.deeds after) gate body answer
 
 -- what a crash leaves of a bank's begun record that was added there and not kept: what stood, and after a doubt what stands with the record, once the gate's byte is on
 abbrev pub FailedLeaves : {W : Type 0} → Ghosts W → (bank there : BankView) → (before after : W) → Kept → Type 0
@@ -80,6 +82,7 @@ pub record Appends {W : Type 0} (G : Ghosts W) (old new : BankView) (before afte
   pub full : (answer ≡ appending.Full) ↔ (area_end old < needed_end old)
   pub nothing : answer ≡ appending.Full → after ≡ before
   pub counted : IfSome (kept_in answer) (CountsKept G before after)
+  pub deeds : IfSome (kept_in answer) (KeepsRecord (G.deeds before) (G.deeds after) old)
   pub writes : answer ≡ appending.Done → G.writes after ≡ option_map (λ count. count + 2) (G.writes before)
   pub crash : TracksBank G old before → Leaves G (IsEither (begun_of old) (held_of G before)) before after
   pub apart : TracksBank G old before → Leaves G (λ image seen. IsApart old.gate (needed_end old) (held_of G before) image) before after

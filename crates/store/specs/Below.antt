@@ -7,13 +7,15 @@ pub use Rattle.lines.specs.Segments.{line_bytes, page_bytes}
 pub use Rattle.lines.specs.declared.line_geometry.PageSize.{PageSize}
 pub use Rattle.outside.specs.Bytes.{bytes_at, CountsWrite, Torn, Writes, written}
 pub use Rattle.outside.specs.Causes.{FailsOnlyCounted, Rose}
+pub use Rattle.outside.specs.Deeds.{Carries, Deed, Did, DidSome, Stays, Synced, SyncsBy, Wrote}
 pub use Rattle.outside.specs.Durable.{IsSure, IsWritten, MakesSure}
 pub use Rattle.outside.specs.Moments.{LeavesStep}
-pub use Rattle.outside.specs.Runs.{AsksFor, CallsDisk, held_of, IfTold, Leaves, OnlyAsks, ReadsTold}
+pub use Rattle.outside.specs.Runs.{AsksFor, AsksSo, CallsDisk, held_of, IfTold, Leaves, OnlyAsks, ReadsTold}
 pub use Rattle.outside.specs.declared.failed.Failed.{Failed}
 pub use Rattle.outside.specs.declared.world.Outside.{Ghosts}
 pub use Rattle.store_format.specs.Bank.{area_at, BankContent, bank_held, bank_of, Faulty, gate_if, Holds, lines_from, record_bytes, RecordLine, wrong_line}
-pub use Rattle.store_format.specs.Body.{body_lines}
+pub use Rattle.store_format.specs.Asked.{body_deeds, copy_deeds, gate_deeds, head_bytes, home_deeds, other, selector_of, sure_deeds, turn_deeds}
+pub use Rattle.store_format.specs.Body.{body_lines, IsBody}
 pub use Rattle.store_format.specs.Header.{bank_at, entry_bytes, HasRanges, Header, header_of, home_at, number_at, total}
 pub use Rattle.store_format.specs.Read.{AsksUnless}
 pub use Rattle.store_format.specs.Stands.{chosen, Damaged, HasHeader, IsStore, NotAStore, one_more, Standing, Stands, stands}

@@ -1,20 +1,11 @@
 -- The bank that the selector chooses.
+pub use Rattle.store_format.specs.Asked.{other, selector_of}
 use Rattle.std.specs.Prelude.{◌≡◌, ℕ, List, length, Result}
 use Rattle.store.specs.Below.{A, B, chosen, Ghosts, Header, held_of, IsStore, line_count, RecordLine, Which}
 use Rattle.store.specs.declared.open_fault.OpenFault.{OpenFault}
 use Rattle.store.specs.declared.open_fault.ReopenFault.{ReopenFault}
 use Rattle.store.specs.Kept.{BankView}
 use Rattle.store.specs.Opened.{AsksBankAgain, AsksOfBank, IsRead}
-
--- the other bank
-abbrev pub other : Which → Which
-other A = B
-other B = A
-
--- the byte of the selector that chooses a bank
-abbrev pub selector_of : Which → ℕ
-selector_of A = 0
-selector_of B = 1
 
 -- The kept bank is the one that these bytes choose, and what they hold there.
 pub record IsChosen (held : List ℕ) (bank : BankView) : Type 0 where

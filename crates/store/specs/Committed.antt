@@ -8,6 +8,8 @@ use Rattle.store.specs.Held.{IsMoreBy, OnlyWrites}
 use Rattle.store.specs.Kept.{BankView, SameShape, area_end, needed_end, bank_number, begun_of, spoilt, with_record, newest_place, end_of, line_bytes_of}
 use Rattle.store.specs.Tracks.{HoldsOneOf, IsAppended, IsEither, TracksBank, HoldsRecords}
 use Rattle.store.specs.Turned.{bank_turned}
+use Rattle.store.specs.Below.{Carries, copy_deeds}
+use Rattle.store.specs.Exact.{checkpoint_deeds, CommitsDeeds, homes_written}
 use Rattle.store.specs.Chosen.{other}
 
 -- The image is as long as the old one, and has the same byte at each offset but these.
@@ -62,6 +64,7 @@ pub record CopiesLine {W : Type 0} (G : Ghosts W) {T : Type 0} (bytes : ℕ) (fr
   pub crash : IsTrue (G.is_honest old) → IsSome (G.held old) → LeavesStep (TornLine bytes from to) G.moment G.left_since old new
   pub done : OnOk result (IsSome (G.held old) → held_of G new ≡ copied bytes (held_of G old) from to)
   pub cause : FailsOnlyCounted (G.disk_faults old) (G.disk_faults new) result
+  pub deeds : IsSome (G.held old) → Carries (G.deeds old) (G.deeds new) (copy_deeds bytes (held_of G old) from to) result
 
 -- the newest bytes of a line are copied to its home, where the bank holds it
 abbrev pub CopiesNewest : {W : Type 0} → Ghosts W → {T : Type 0} → BankView → ℕ → W → W → Result T Failed → Type 0
@@ -84,6 +87,7 @@ pub record WritesHome {W : Type 0} (G : Ghosts W) {T : Type 0} (bank : BankView)
   pub crash : (tracks : TracksBank G bank old) → Leaves G (λ image seen. IsHomeCovered tracks.header tracks.records (held_of G old) image) old new
   pub done : OnOk result ((tracks : TracksBank G bank old) → IsHomed tracks.header tracks.records (held_of G old) (length bank.newest) (held_of G new))
   pub cause : FailsOnlyCounted (G.disk_faults old) (G.disk_faults new) result
+  pub deeds : TracksBank G bank old → Carries (G.deeds old) (G.deeds new) (homes_written bank (held_of G old) (length bank.newest)) result
 
 -- The image stands for what was held, by its old bank or by the other one without records, and is what was held at each offset that a checkpoint doesn't write.
 pub record IsSame (header : Header) (bank : BankView) (records : List (List RecordLine)) (held image : List ℕ) : Type 0 where
@@ -103,6 +107,7 @@ pub record Moves {W : Type 0} (G : Ghosts W) {T : Type 0} (bank : BankView) (old
   pub crash : (tracks : TracksBank G bank old) → Leaves G (λ image seen. IsSame tracks.header bank tracks.records (held_of G old) image) old new
   pub done : OnOk result ((tracks : TracksBank G bank old) → IsMoved G tracks.header bank old new)
   pub cause : FailsOnlyCounted (G.disk_faults old) (G.disk_faults new) result
+  pub deeds : TracksBank G bank old → Carries (G.deeds old) (G.deeds new) (checkpoint_deeds bank (held_of G old)) result
 
 -- what is kept after a checkpoint: the other bank, or where it failed this one, which is to be reopened
 abbrev pub bank_checkpointed : Result (Unit {0}) Failed → BankView → BankView
@@ -123,6 +128,7 @@ pub record Checkpoints {W : Type 0} (G : Ghosts W) (old new : BankView) (before 
   pub kept : new ≡ bank_checkpointed result old
   pub fits : OnOk result (needed_end new ≤ area_end new)
   pub cause : FailsOnlyCounted (G.disk_faults before) (G.disk_faults after) result
+  pub deeds : TracksBank G old before → Carries (G.deeds before) (G.deeds after) (checkpoint_deeds old (held_of G before)) result
   pub crash : (tracks : TracksBank G old before) → Leaves G (λ image seen. IsSame tracks.header old tracks.records (held_of G before) image) before after
   pub held : (tracks : TracksBank G old before) → IsSame tracks.header old tracks.records (held_of G before) (held_of G after)
   pub done : OnOk result (TracksBank G old before → IsCheckpointed G old new before after)
@@ -166,6 +172,7 @@ pub record Commits {W : Type 0} (G : Ghosts W) (there old new : BankView) (befor
   pub kept : IsKeptAfter answer there old new
   pub counted : CountsKept G before after answer
   pub writes : answer ≡ Done → IsMoreBy 2 (G.writes before) (G.writes after)
+  pub deeds : TracksBank G old before → CommitsDeeds (G.deeds before) (G.deeds after) there old (held_of G before) answer
   pub crash : TracksBank G old before → Leaves G (IsEither (begun_of old) (held_of G before)) before after
   pub left : TracksBank G old before → FailedLeaves G old there before after answer
   pub records : (tracks : TracksBank G old before) → LeavesCommitted G tracks.header there old tracks.records before after

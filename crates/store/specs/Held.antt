@@ -1,6 +1,6 @@
 -- What calls of a disk that may write keep, and a body behind a gate.
-use Rattle.std.specs.Prelude.{◌≡◌, ℕ, ◌+◌, ◌≤◌, List, length, Option, Some, IsSome, IsTrue, Result, OnOk, ◌==◌, Bool, true, false, take, drop, slice_index}
-use Rattle.store.specs.Below.{CallsDisk, CountsWrite, Failed, FailsOnlyCounted, ForSome, Ghosts, Leaves, LeavesStep, option_map, Torn, Writes, held_of, IsSure, IsWritten}
+use Rattle.std.specs.Prelude.{◌≡◌, ℕ, ◌+◌, ◌≤◌, List, length, Option, Some, IsSome, IsTrue, Result, OnOk, ◌==◌, Bool, true, false, take, drop, slice_index, [], ◌∷◌}
+use Rattle.store.specs.Below.{Carries, sure_deeds, Wrote, CallsDisk, CountsWrite, Failed, FailsOnlyCounted, ForSome, Ghosts, Leaves, LeavesStep, option_map, Torn, Writes, held_of, IsSure, IsWritten}
 
 -- where the bytes are told, at least so many are held
 abbrev pub HoldsAtLeast : {W : Type 0} → Ghosts W → ℕ → W → Type 0
@@ -24,6 +24,7 @@ pub record WritesOnce {W : Type 0} (G : Ghosts W) {T : Type 0} (at : ℕ) (bytes
   pub counted : CountsWrite (G.writes old) (G.writes new) result
   pub crash : IsTrue (G.is_honest old) → IsSome (G.held old) → LeavesStep (Torn at (length bytes)) G.moment G.left_since old new
   pub cause : FailsOnlyCounted (G.disk_faults old) (G.disk_faults new) result
+  pub deeds : Carries (G.deeds old) (G.deeds new) (Wrote at bytes ∷ []) result
 
 -- So many bytes are written over such that are held, and where nothing fails they are sure. From the start on a crash may leave anything in their range.
 pub record WritesSure {W : Type 0} (G : Ghosts W) {T : Type 0} (at : ℕ) (bytes : List ℕ) (old new : W) (result : Result T Failed) : Type 0 where
@@ -32,6 +33,7 @@ pub record WritesSure {W : Type 0} (G : Ghosts W) {T : Type 0} (at : ℕ) (bytes
   pub done : OnOk result (IsSure G old → IsWritten G at bytes old new)
   pub writes : OnOk result (G.writes new ≡ option_map (λ count. count + 1) (G.writes old))
   pub cause : FailsOnlyCounted (G.disk_faults old) (G.disk_faults new) result
+  pub deeds : Carries (G.deeds old) (G.deeds new) (sure_deeds at bytes) result
 
 -- whether the gate at an offset is open
 abbrev pub is_open : ℕ → List ℕ → Bool

@@ -1,16 +1,7 @@
 -- The newest place of each line, and a bank as it is kept.
+pub use Rattle.store_format.specs.Bank.{place_in, newest_place}
 use Rattle.std.specs.Prelude.{◌≡◌, ℕ, ◌+◌, ◌*◌, ◌%◌, ◌^◌, Bool, true, List, [], ◌∷◌, ◌++◌, length, Option, None, Some, unwrap_or, ◌≢◌, ◌<◌, ◌≤◌, ◌==◌, if◌then◌else◌, fold, slice_index_or, All, IfSome}
 use Rattle.store.specs.Below.{A, B, entry_bytes, line_bytes, PageSize, RecordLine, Which, option_or, overlaid, bytes_at}
-
--- where a record has the bytes of a line
-abbrev pub place_in : ℕ → List RecordLine → Option ℕ
-place_in line [] = None
-place_in line (first ∷ lines) = option_or (place_in line lines) (if first.line == line then Some (first.at + 4) else None)
-
--- where the last record that has a line has its bytes
-abbrev pub newest_place : ℕ → List (List RecordLine) → Option ℕ
-newest_place line [] = None
-newest_place line (first ∷ records) = option_or (newest_place line records) (place_in line first)
 
 -- these are the newest places of the lines in records
 abbrev pub AreNewest : List (Option ℕ) → List (List RecordLine) → Type 0

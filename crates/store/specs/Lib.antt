@@ -13,3 +13,4 @@ pub mod Committed
 pub mod KeptStore
 pub mod Shows
 pub mod Faults
+pub mod Exact

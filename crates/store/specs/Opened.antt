@@ -1,6 +1,6 @@
 -- What a bank is that was read from the disk.
 use Rattle.std.specs.Prelude.{◌≡◌, ◌↔◌, ◌<◌, ℕ, List, length, slice_get, Some, None, IsSome, Result, IfErr, is_err}
-use Rattle.store.specs.Below.{AsksUnless, BankContent, bank_held, bank_of, Faulty, Ghosts, Header, held_of, Holds, IfTold, line_count, number_at, PageSize, RecordLine, Rose, Which}
+use Rattle.store.specs.Below.{Stays, AsksUnless, BankContent, bank_held, bank_of, Faulty, Ghosts, Header, held_of, Holds, IfTold, line_count, number_at, PageSize, RecordLine, Rose, Which}
 use Rattle.store.specs.declared.open_fault.OpenFault.{OpenFault}
 use Rattle.store.specs.declared.open_fault.OpenFault.TheVariants as opening
 use Rattle.store.specs.declared.open_fault.ReopenFault.{ReopenFault}
@@ -45,11 +45,11 @@ IsBankOpenFault G old new header which opening.Memory = Unit {0}
 
 -- an opening of a bank only asks the disk
 abbrev pub AsksOfBank : {W T : Type 0} → Ghosts W → Header → Which → W → W → Result T OpenFault → Type 0
-AsksOfBank G header which old new result = AsksUnless G opening.DiskFault (IsBankOpenFault G old new header which) old new result
+AsksOfBank G header which old new result = AsksUnless G Stays opening.DiskFault (IsBankOpenFault G old new header which) old new result
 
 -- and so does one that is read again
 abbrev pub AsksBankAgain : {W T : Type 0} → Ghosts W → Which → BankView → W → W → Result T ReopenFault → Type 0
-AsksBankAgain G which bank old new result = AsksUnless G reopening.DiskFault (IsBankReopenFault G old new which bank) old new result
+AsksBankAgain G which bank old new result = AsksUnless G Stays reopening.DiskFault (IsBankReopenFault G old new which bank) old new result
 
 -- The sizes of a bank that is read again stay, no record is begun, and where that failed it is to be reopened.
 pub record IsStartedAgain {T : Type 0} (old new : BankView) (result : Result T ReopenFault) : Type 0 where

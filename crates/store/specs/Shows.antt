@@ -1,4 +1,6 @@
 -- What a store that is kept says of the bytes on the disk, and what its opening, a commit and a checkpoint do.
+use Rattle.store.specs.Below.{Carries}
+use Rattle.store.specs.Exact.{checkpoint_deeds, CommitsDeeds}
 use Rattle.std.specs.Prelude.{◌≡◌, ℕ, ◌*◌, ◌+◌, ◌≤◌, List, [], take, drop, false, None, IsSome, IsTrue, Result, OnOk}
 use Rattle.lines.specs.FlatStore.{FlatStore}
 use Rattle.store.specs.Below.{chosen, Damaged, Failed, FailsOnlyCounted, Ghosts, HasHeader, Header, held_of, IsStore, IsSure, Leaves, NotAStore, one_more, page_bytes, RecordLine, Standing, Stands, stands, total, Which}
@@ -93,6 +95,7 @@ pub record CommitsStore {W : Type 0} (G : Ghosts W) (old new : StoreView) (befor
   pub count : new.bank.count ≤ old.bank.count + 1
   pub counted : CountsKept G before after answer
   pub writes : answer ≡ Done → IsMoreBy 2 (G.writes before) (G.writes after)
+  pub deeds : TracksStore G old before → CommitsDeeds (G.deeds before) (G.deeds after) (roomy old.bank) old.bank (held_of G before) answer
   pub crash : TracksStore G old before → Leaves G (IsEither (begun_of old.bank) (held_of G before)) before after
   pub left : TracksStore G old before → FailedLeaves G old.bank (roomy old.bank) before after answer
   pub records : (tracks : TracksStore G old before) → LeavesCommitted G old.header (roomy old.bank) old.bank tracks.shows.read.records before after
@@ -106,6 +109,7 @@ pub record CheckpointsStore {W : Type 0} (G : Ghosts W) (old new : StoreView) (b
   pub kept : new.bank ≡ bank_checkpointed result old.bank
   pub number : store_number new ≡ store_number old
   pub count : OnOk result (new.bank.count ≡ 0)
+  pub deeds : TracksStore G old before → Carries (G.deeds before) (G.deeds after) (checkpoint_deeds old.bank (held_of G before)) result
   pub cause : FailsOnlyCounted (G.disk_faults before) (G.disk_faults after) result
   pub crash : (tracks : TracksStore G old before) → Leaves G (λ image seen. IsSame old.header old.bank tracks.shows.read.records (held_of G before) image) before after
   pub held : (tracks : TracksStore G old before) → IsSame old.header old.bank tracks.shows.read.records (held_of G before) (held_of G after)

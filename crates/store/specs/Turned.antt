@@ -1,4 +1,5 @@
 -- A bank that is turned to: the other one, without records.
+pub use Rattle.store_format.specs.Asked.{head_bytes}
 use Rattle.std.specs.Prelude.{ℕ, ◌+◌, List, [], ◌∷◌, ◌++◌, length, replicate, None, Result}
 use Rattle.store.specs.Below.{big_bytes, entry_bytes, Failed, Ghosts, option_map, PageSize, RecordLine, Which}
 use Rattle.store.specs.Held.{WritesOnce}
@@ -19,10 +20,6 @@ bank_turned which bank = record bank {
   newest = replicate (length bank.newest) None;
   begun = option_map (placed bank.page (bank_place which bank.bank_bytes + 19)) bank.begun;
 }
-
--- what a bank without records begins with: its base and a closed gate
-abbrev pub head_bytes : ℕ → List ℕ
-head_bytes base = big_bytes 8 base ++ 0 ∷ []
 
 -- the head of the bank at a place is written, with the number as its base
 abbrev pub WritesHead : {W : Type 0} → Ghosts W → {T : Type 0} → BankView → Which → W → W → Result T Failed → Type 0

@@ -4,6 +4,7 @@
 
 mod bank_reading;
 mod checkpoint;
+mod cost_law;
 mod find;
 mod home;
 mod keep;
@@ -17,6 +18,7 @@ mod restart;
 mod selector;
 mod shown_law;
 
+pub use cost_law::a_record_costs_its_lines;
 pub use checkpoint::Banks;
 pub use find::Record;
 pub use keep::{Appended, Kept, write_once, write_sure};

@@ -1,6 +1,6 @@
 // How an opening begins: the disk is synced, and the header is read.
 ghost use Rattle.std.specs.Prelude.{IfOk, OnOk};
-ghost use Rattle.store.specs.Below.{FailsOnlyCounted, HasHeader, MakesSure, OnlyAsks, ReadsTold, total};
+ghost use Rattle.store.specs.Below.{AsksSo, FailsOnlyCounted, HasHeader, MakesSure, ReadsTold, SyncsBy, total};
 ghost use Rattle.store.specs.Held.{HoldsAtLeast};
 ghost use Rattle.store.specs.Faults.{AsksAtStart};
 
@@ -28,7 +28,7 @@ pub fn start<W: Outside>(outside: &mut W) -> Result<Header, OpenFault>
 
 /// Makes the disk's bytes sure.
 pub fn synced<W: Outside>(outside: &mut W) -> Result<(), Failed>
-    ensures asks { OnlyAsks W.Outside outside.old outside.new }
+    ensures asks { AsksSo W.Outside (SyncsBy result) outside.old outside.new }
     ensures sure { OnOk result (MakesSure W.Outside outside.old outside.new) }
     ensures cause { FailsOnlyCounted (W.disk_faults outside.old) (W.disk_faults outside.new) result }
 {

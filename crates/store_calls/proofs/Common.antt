@@ -15,7 +15,7 @@ pub use Rattle.lines.specs.declared.line_geometry.PageSize.{PageSize}
 pub use Rattle.listing.specs.Listing.{row_lines}
 pub use Rattle.outside.proofs.Runs.{asks_on, asks_one, calls_on, elapses-trans, leaves_on, leaves_same, still_told}
 pub use Rattle.outside.proofs.Shows.{held_same, shows_asks, shows_none, shows_on, shows_puts}
-pub use Rattle.outside.specs.Runs.{AsksAndPuts, CallsDisk, FewerLater, OnlyAsks, held_of, Leaves}
+pub use Rattle.outside.specs.Runs.{AsksAndPuts, CallsDisk, FewerLater, OnlyAsks, OnlyOpens, held_of, Leaves}
 pub use Rattle.outside.specs.declared.failed.Failed.{Failed}
 pub use Rattle.store.proofs.ShowLemmas.{shown_store}
 pub use Rattle.store.specs.KeptStore.{store_number}

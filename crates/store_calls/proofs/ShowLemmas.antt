@@ -1,5 +1,5 @@
 -- Calls that ask the disk, and puts, one after another, and what printing a range of a store did.
-use Rattle.store_calls.proofs.Common.{Option, IsSome, Result, Ok, Err, div_ceil, cases_lt, drop-drop, drop-take, div-add-mod', PageSize, page_bytes, Ghosts, Failed, Prints, AsksAndPuts, OnlyAsks, FewerLater, held_of, held_same, shows_asks, shows_none, shows_on, shows_puts, stands_is, Standing, Stands, NotAStore, Damaged, stands, shown_store, IsShown, Shows, page_in, row_lines, PrintsBytes, PutsTimes, Status, AreBytesRead, HasShown, PutsBytes, PutsDone, StopsBy, bytes_standing, nat_tests, ◌≡◌, ◌≤◌, ◌<◌, ◌+◌, ◌-◌, ◌*◌, ◌/◌, ◌%◌, ⊎_elim, ℕ, List, [], ◌++◌, length, take, drop, refl, sym, ◌∙◌, ap, subst, arith, append-nil, length-append, prints_broken, prints_none, prints_on, prints_stop, prints_same, prints_unput, ◌⊎◌, inl, inr, IsTrue, unwrap_or, AreTold, bytes_at, leaves_on, Layout, start_of, FlatStore, call, Range, HasRange, IsInside, RangeShown, ShownBy, rows_of, Leaves, leaves_held, TracksStore, take-take, drop_all, take_all}
+use Rattle.store_calls.proofs.Common.{Option, IsSome, Result, Ok, Err, div_ceil, cases_lt, drop-drop, drop-take, div-add-mod', PageSize, page_bytes, Ghosts, Failed, Prints, AsksAndPuts, OnlyAsks, OnlyOpens, FewerLater, held_of, held_same, shows_asks, shows_none, shows_on, shows_puts, stands_is, Standing, Stands, NotAStore, Damaged, stands, shown_store, IsShown, Shows, page_in, row_lines, PrintsBytes, PutsTimes, Status, AreBytesRead, HasShown, PutsBytes, PutsDone, StopsBy, bytes_standing, nat_tests, ◌≡◌, ◌≤◌, ◌<◌, ◌+◌, ◌-◌, ◌*◌, ◌/◌, ◌%◌, ⊎_elim, ℕ, List, [], ◌++◌, length, take, drop, refl, sym, ◌∙◌, ap, subst, arith, append-nil, length-append, prints_broken, prints_none, prints_on, prints_stop, prints_same, prints_unput, ◌⊎◌, inl, inr, IsTrue, unwrap_or, AreTold, bytes_at, leaves_on, Layout, start_of, FlatStore, call, Range, HasRange, IsInside, RangeShown, ShownBy, rows_of, Leaves, leaves_held, TracksStore, take-take, drop_all, take_all}
 use Rattle.std.proofs.Math.Seq.{take-add}
 use Rattle.store.specs.KeptStore.{StoreView}
 use Rattle.listing.proofs.RowLemmas.{rows_on}
@@ -192,7 +192,7 @@ stood : (held : List ℕ) (store : StoreView) → Shows held store → (number :
 stood held store shows = (_, _, stands_is held store.header store.bank.which store.bank.base store.bank.gate shows.read.records (shown_store held store shows), refl)
 
 module _ {W : Type 0} (G : Ghosts W) (fewer_later : FewerLater G) (printed_now : (w : W) (image seen : List ℕ) → G.left_since w (G.moment w) image seen → AreTold (G.printed w) seen)
-    (range : Range) (before start : W) (asks : OnlyAsks G before start) where
+    (range : Range) (before start : W) (asks : OnlyOpens G before start) where
   -- a crash in the opening leaves the bytes that were printed
   quiet : Leaves G (λ image seen. AreTold (G.printed before) seen) before start
   quiet image seen left = ⊎_elim (λ was. printed_now before image seen was) (λ is. is) (asks.calls.quiet.crash image seen left)

@@ -17,7 +17,7 @@ pub use Rattle.listing.specs.BytesPut.{PrintsBytes, PutsTimes}
 pub use Rattle.outside.specs.Bytes.{AreTold, bytes_at, Prints, Torn, written}
 pub use Rattle.outside.specs.Causes.{FailsOnlyCounted, Rose}
 pub use Rattle.outside.specs.Durable.{IsSure}
-pub use Rattle.outside.specs.Runs.{AsksAndPuts, CallsDisk, held_of, Leaves, OnlyAsks}
+pub use Rattle.outside.specs.Runs.{AsksAndPuts, CallsDisk, held_of, Leaves, OnlyAsks, OnlyOpens, OpensAndPuts}
 pub use Rattle.outside.specs.declared.failed.Failed.{Failed}
 pub use Rattle.outside.specs.declared.world.Outside.{Ghosts}
 pub use Rattle.report_text.specs.ReadLines.{AreCommitsOf, IsFirstBadLine}

@@ -1,7 +1,7 @@
 -- What printing bytes of a store did.
 use Rattle.std.specs.Prelude.{◌≡◌, ◌≢◌, ◌⊎◌, ℕ, ◌+◌, ◌^◌, ◌≤◌, List, [], length, Some, IsSome, IsTrue, Result, Ok, Err, OnOk, IfErr}
 use Rattle.std.specs.Int.{div_ceil}
-use Rattle.store_calls.specs.Below.{AreTold, AsksAndPuts, byte_count, bytes_at, Called, Damaged, Failed, FailsOnlyCounted, FlatStore, Ghosts, held_of, IsFaultAt, IsOfOpening, IsShown, IsUsable, Layout, Leaves, length_of, NotAStore, OnlyAsks, Prints, PrintsBy, Rose, Standing, Stands, stands, start_of, Status, total}
+use Rattle.store_calls.specs.Below.{AreTold, AsksAndPuts, byte_count, bytes_at, Called, Damaged, Failed, FailsOnlyCounted, FlatStore, Ghosts, held_of, IsFaultAt, IsOfOpening, IsShown, IsUsable, Layout, Leaves, length_of, NotAStore, OnlyAsks, OnlyOpens, OpensAndPuts, Prints, PrintsBy, Rose, Standing, Stands, stands, start_of, Status, total}
 use Rattle.store.specs.KeptStore.{StoreView}
 use Rattle.listing.specs.Listing.{row_lines}
 use Rattle.call_status.specs.declared.status.Status.TheVariants as status
@@ -85,16 +85,16 @@ abbrev pub ShownBy : {W : Type 0} → Ghosts W → Range → W → W → Status 
 ShownBy G range before after status.Done = HasRange G range before × PrintsRows G range before after status.Done × PutsRows G range before after
 ShownBy G range before after status.PutFault = HasRange G range before × PrintsRows G range before after status.PutFault
 ShownBy G range before after status.DiskFault = PrintsRows G range before after status.DiskFault × ((G.printed after ≡ G.printed before) ⊎ HasRange G range before)
-ShownBy G range before after status.NoRange = OnlyAsks G before after × HasNoRange G range before
-ShownBy G range before after (status.Store offset) = OnlyAsks G before after × (IsSome (G.held before) → IsFaultAt (held_of G before) offset)
-ShownBy G range before after status.NoMemory = OnlyAsks G before after
+ShownBy G range before after status.NoRange = OnlyOpens G before after × HasNoRange G range before
+ShownBy G range before after (status.Store offset) = OnlyOpens G before after × (IsSome (G.held before) → IsFaultAt (held_of G before) offset)
+ShownBy G range before after status.NoMemory = OnlyOpens G before after
 ShownBy G range before after _ = ⊥
 
--- What it did; it writes nothing, each image that a crash may leave since is one of the start, and there is no order. Where the disk is honest and
+-- What it did; it writes nothing and syncs once at most, each image that a crash may leave since is one of the start, and there is no order. Where the disk is honest and
 -- tells its bytes, each that is left once something is printed is just these. The disk's count of faults rises with DiskFault alone.
 pub record RangeShown {W : Type 0} (G : Ghosts W) (range : Range) (call : Called W) : Type 0 where
   pub no_order : call.order ≡ []
-  pub only : AsksAndPuts G call.before call.after
+  pub only : OpensAndPuts G call.before call.after
   pub sure : IsTrue (G.is_honest call.before) → IsSome (G.held call.before) → Leaves G (λ image seen. AreTold (G.printed call.before) seen ⊎ (image ≡ held_of G call.before)) call.before call.after
   pub calm : call.status ≢ status.DiskFault → G.disk_faults call.after ≡ G.disk_faults call.before
   pub by_status : ShownBy G range call.before call.after call.status

@@ -1,8 +1,9 @@
 -- What reading a header answers.
-use Rattle.std.specs.Prelude.{◌≡◌, ◌≢◌, ℕ, ◌-◌, List, ◌++◌, length, take, replicate, Result, OnOk, IfErr}
+use Rattle.std.specs.Prelude.{◌≡◌, ◌≢◌, ℕ, ◌-◌, List, ◌++◌, length, take, replicate, Option, Result, OnOk, IfErr}
 use Rattle.outside.specs.declared.world.Outside.{Ghosts}
 use Rattle.outside.specs.Causes.{Rose}
-use Rattle.outside.specs.Runs.{IfTold, OnlyAsks}
+use Rattle.outside.specs.Deeds.{Deed, Stays}
+use Rattle.outside.specs.Runs.{AsksSo, IfTold}
 use Rattle.store_format.specs.declared.header_reading.HeaderFault as code
 use Rattle.store_format.specs.declared.header_reading.HeaderFault.TheVariants as fault
 use Rattle.store_format.specs.Stands.{stands, NotAStore}
@@ -12,9 +13,9 @@ pub record IsHead (held : List ℕ) (read : ℕ × List ℕ) : Type 0 where
   pub number : read.0 ≡ length held
   pub head : read.1 ≡ take 128 held ++ replicate (128 - length held) 0
 
--- Calls that only ask, whose answer may name the disk's fault: none is counted where they succeed or answer another fault, and each fault has its cause.
-pub record AsksUnless {W T E : Type 0} (G : Ghosts W) (failed : E) (cause : E → Type 0) (old new : W) (result : Result T E) : Type 0 where
-  pub asks : OnlyAsks G old new
+-- Calls that leave the disk's bytes, with such deeds, whose answer may name the disk's fault: none is counted where they succeed or answer another fault, and each fault has its cause.
+pub record AsksUnless {W T E : Type 0} (G : Ghosts W) (D : (before after : Option (List Deed)) → Type 0) (failed : E) (cause : E → Type 0) (old new : W) (result : Result T E) : Type 0 where
+  pub asks : AsksSo G D old new
   pub no_fault : OnOk result (G.disk_faults new ≡ G.disk_faults old)
   pub fault : IfErr result cause
   pub calm : IfErr result (λ fault. fault ≢ failed → G.disk_faults new ≡ G.disk_faults old)
@@ -26,4 +27,4 @@ IsHeaderFault G old new fault.DiskFault = Rose (G.disk_faults old) (G.disk_fault
 
 -- a reading of the header only asks the disk
 abbrev pub AsksHeader : {W T : Type 0} → Ghosts W → W → W → Result T code.HeaderFault → Type 0
-AsksHeader G old new result = AsksUnless G fault.DiskFault (IsHeaderFault G old new) old new result
+AsksHeader G old new result = AsksUnless G Stays fault.DiskFault (IsHeaderFault G old new) old new result

@@ -5,7 +5,7 @@ use Rattle.real_files.specs.ShownLaws.{marks_in_order}
 use Rattle.file_runs.proofs.FileLemmas.{marks_counted}
 use Rattle.file_runs.specs.FileRun.{IsCalm}
 use Rattle.file_runs.proofs.Common.{arith, Status}
-use Rattle.real_files.specs.Deeds.{deed_failed}
+use Rattle.real_files.specs.Deeds.{deed_failed, file_after}
 use Rattle.outside.specs.Causes.{Rose}
 use Rattle.file_runs.proofs.on_file.console_on_file.Goals as goal
 
@@ -30,6 +30,12 @@ returns-clause-did g c form is on_file =
       calm_disk = λ is_calm. parts.ensures.disk_calm is_calm.0 (ap (count_by deed_failed) (ap g.F.RawFile.deeds parts.ensures.file) ∙ is_calm.1);
       screen = record { honest = made.ensures.honest; held = made.ensures.held; none = made.ensures.printed; shown = refl; left = made.ensures.left; unput = ap (λ (moment : Moment). moment.puts) made.ensures.moment; count = marks_counted 0 puts };
       moment = made.ensures.moment;
+      undone = ap (λ (these : List Deed). Some these) (ap g.F.RawFile.deeds made.ensures.file ∙ c.requires.deeds);
+      deeds_are = refl;
+      holds = λ w done origin told.
+          let made_first : g.F.RawFile.first w.disk.file ≡ bytes = ap (λ (from : Origin). from.first) (origin ∙ ap (λ (moment : Moment). moment.origin) made.ensures.moment) in
+          let deeds_are : g.F.RawFile.deeds w.disk.file ≡ done = let is : Some (g.F.RawFile.deeds w.disk.file) ≡ Some done = told in cc in
+          ap (λ (these : List ℕ). Some these) w.disk.replayed ∙ (λ i. Some (file_after (made_first i) (deeds_are i)));
       calls = refl;
       unwritten = ap (λ (these : List Deed). Some (count_by deed_writes these)) (ap g.F.RawFile.deeds made.ensures.file ∙ c.requires.deeds);
       writes = refl;

@@ -2,6 +2,7 @@ use Rattle.file_runs.proofs.Common.{◌≡◌, ℕ, List, [], length, sym, ◌�
 use Rattle.std.proofs.lemmas.List.{take_all}
 use Rattle.std.specs.Prelude.{true, false}
 use Rattle.outside.specs.ClockLaws.{left_now}
+use Rattle.real_files.specs.Deeds.{file_after}
 use Rattle.real_files.specs.ShownLaws.{marks_in_order}
 use Rattle.real_files.specs.declared.absent_disk.AbsentDisk.{AbsentDisk}
 use Rattle.file_runs.proofs.FileLemmas.{marks_counted}
@@ -28,6 +29,9 @@ returns-clause-did g c form is =
         count = marks_counted 0 puts;
       };
       moment = ap (λ (those : List Deed). record { calls = 0; puts = length (marks_of 0 those); origin = record { first = []; stop = None } }) none;
+      undone = refl;
+      deeds_are = refl;
+      holds = λ w done origin told. let is : [] ≡ done = let same : Some [] ≡ Some done = told in cc in ap (λ (these : List Deed). Some (file_after [] these)) is;
       calls = refl;
       unwritten = refl;
       writes = refl;

@@ -42,7 +42,7 @@ read_at-requires g c = reads_within (g.W.Outside.held c.args.outside.now) (c.arg
 
 pub loop-count-init : goal.loop-count-init
 loop-count-init g c = record {
-  asks = asks_one g.W.Outside c.args.outside.now c.read_at.new.self c.read_at.ensures.asks c.read_at.result c.read_at.ensures.counts;
+  asks = asks_one g.W.Outside c.args.outside.now c.read_at.new.self c.read_at.ensures.asks c.read_at.result c.read_at.ensures.counts c.read_at.ensures.deeds;
   no_fault = c.in_ok-read_at.ensures.counts.cause.done;
   len = refl;
   placed = λ end few are. are;

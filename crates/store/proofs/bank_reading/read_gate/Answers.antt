@@ -29,8 +29,8 @@ still g c some = subst (λ (those : Option (List ℕ)). IsSome those) (sym (c.re
 asked : (g : Over) (c : goal.After-read_at-2 g) → OnlyAsks g.W.Outside c.args.outside.now c.read_at-2.new.self
 asked g c =
     asks_on g.W.Outside g.met.W.Outside.fewer_later c.args.outside.now c.read_at.new.self c.read_at-2.new.self
-    (asks_one g.W.Outside c.args.outside.now c.read_at.new.self c.read_at.ensures.asks c.read_at.result c.read_at.ensures.counts)
-    (asks_one g.W.Outside c.read_at.new.self c.read_at-2.new.self c.read_at-2.ensures.asks c.read_at-2.result c.read_at-2.ensures.counts)
+    (asks_one g.W.Outside c.args.outside.now c.read_at.new.self c.read_at.ensures.asks c.read_at.result c.read_at.ensures.counts c.read_at.ensures.deeds)
+    (asks_one g.W.Outside c.read_at.new.self c.read_at-2.new.self c.read_at-2.ensures.asks c.read_at-2.result c.read_at-2.ensures.counts c.read_at-2.ensures.deeds)
 
 pub returns-in_err-offset-clause-asks : goal.returns-in_err-offset-clause-asks
 returns-in_err-offset-clause-asks g c = asks_on g.W.Outside g.met.W.Outside.fewer_later c.args.outside.now c.read_at-2.new.self c.read_lines.new.outside (asked g (goal.at.returns-in_err-offset-clause-asks g c).After-read_at-2) c.in_err-offset.ensures.asks

@@ -10,7 +10,7 @@ read g c some = grind (arith, nat_tests, read_is, c.loop-i.invariant.asks.held, 
 -- the reads so far and this one
 asked : (g : Over) (c : goal.After-read_u32-line g) → OnlyAsks g.W.Outside c.args.outside.now c.read_at.new.self
 asked g c =
-    asks_on g.W.Outside g.met.W.Outside.fewer_later c.args.outside.now c.loop-i.outside c.read_at.new.self c.loop-i.invariant.asks (asks_one g.W.Outside c.loop-i.outside c.read_at.new.self c.read_at.ensures.asks c.read_at.result c.read_at.ensures.counts)
+    asks_on g.W.Outside g.met.W.Outside.fewer_later c.args.outside.now c.loop-i.outside c.read_at.new.self c.loop-i.invariant.asks (asks_one g.W.Outside c.loop-i.outside c.read_at.new.self c.read_at.ensures.asks c.read_at.result c.read_at.ensures.counts c.read_at.ensures.deeds)
 
 pub returns-then-from-least-clause-asks : goal.returns-then-from-least-clause-asks
 returns-then-from-least-clause-asks g c = asked g (goal.at.returns-then-from-least-clause-asks g c).After-read_u32-line
@@ -49,4 +49,4 @@ read_at-requires g c = grind (arith, nat_tests, reads_within, entries-below, g.W
 
 pub returns-in_err-read_at-clause-asks : goal.returns-in_err-read_at-clause-asks
 returns-in_err-read_at-clause-asks g c =
-    asks_on g.W.Outside g.met.W.Outside.fewer_later c.args.outside.now c.loop-i.outside c.read_at.new.self c.loop-i.invariant.asks (asks_one g.W.Outside c.loop-i.outside c.read_at.new.self c.read_at.ensures.asks c.read_at.result c.read_at.ensures.counts)
+    asks_on g.W.Outside g.met.W.Outside.fewer_later c.args.outside.now c.loop-i.outside c.read_at.new.self c.loop-i.invariant.asks (asks_one g.W.Outside c.loop-i.outside c.read_at.new.self c.read_at.ensures.asks c.read_at.result c.read_at.ensures.counts c.read_at.ensures.deeds)

@@ -1,8 +1,13 @@
 use Rattle.store.proofs.Lemmas.{common_steps, ◌≡◌, ℕ, ◌∷◌, [], List, length, sym, subst, ◌∙◌, ap, arith, IsTrue, Bool, line_count, Which, bank_at, Torn, written, IsSure, Leaves, OnlyAsks, held_of, leaves_on, leaves_same, asks_one, OnlyWrites, bank_place, end_of, TracksBank, head_bytes, place_is, held_is, writes_on, asks_only, other, selector_of, IsHomeCovered, IsHomed, IsSame, leaves_step, same_held, written_held, synced_sure, IsHeaded, covered_same, headed_same, headed, selected_same, IsThere, moved, end_within, on_ok_weaker}
 use Rattle.store.specs.Kept.{bank_number}
+use Rattle.store.proofs.Common.{Result, Failed, ◌++◌}
 use Rattle.store.proofs.checkpoint.move_to.Given.{Over}
 use Rattle.store.proofs.checkpoint.move_to.Goals as goal
 use Rattle.store.proofs.checkpoint.move_to.Goals.{After-write_head, After-sync, After-write_selector}
+use Rattle.outside.proofs.DeedLemmas.{carries_on, carries_err, some_more, some_on}
+use Rattle.store.proofs.DeedLemmas.{whole, cut}
+use Rattle.store.specs.Below.{AsksSo, SyncsBy, Carries, Synced, Wrote, sure_deeds}
+use Rattle.store.specs.Exact.{homes_written, turn_written}
 
 -- where the other bank lies
 place : (g : Over) (c : goal.After-write_head g) (tracks : TracksBank g.W.Outside c.args.bank.now c.args.outside.now) → bank_place c.args.which c.args.bank.now.bank_bytes ≡ bank_at tracks.header (other c.args.bank.now.which)
@@ -27,8 +32,8 @@ second g c tracks =
 wrote : (g : Over) (c : goal.After-write_head g) → OnlyWrites g.W.Outside c.args.outside.now c.write_head.new.outside
 wrote g c = writes_on g.W.Outside g.met.W.Outside.fewer_later c.args.outside.now c.write_home.new.outside c.write_head.new.outside c.write_home.ensures.only c.write_head.ensures.only
 
-synced : (g : Over) (c : goal.After-sync g) → OnlyAsks g.W.Outside c.write_head.new.outside c.sync.new.self
-synced g c = asks_one g.W.Outside c.write_head.new.outside c.sync.new.self c.sync.ensures.asks c.sync.result c.sync.ensures.counts
+synced : (g : Over) (c : goal.After-sync g) → AsksSo g.W.Outside (SyncsBy c.sync.result) c.write_head.new.outside c.sync.new.self
+synced g c = asks_one g.W.Outside c.write_head.new.outside c.sync.new.self c.sync.ensures.asks c.sync.result c.sync.ensures.counts c.sync.ensures.deeds
 
 three : (g : Over) (c : goal.After-sync g) → OnlyWrites g.W.Outside c.args.outside.now c.write_head.new.outside → OnlyWrites g.W.Outside c.args.outside.now c.sync.new.self
 three g c before = writes_on g.W.Outside g.met.W.Outside.fewer_later c.args.outside.now c.write_head.new.outside c.sync.new.self before (asks_only g.W.Outside c.write_head.new.outside c.sync.new.self (synced g c))
@@ -41,6 +46,13 @@ third g c tracks before so_far =
     let G = g.W.Outside in
     leaves_same G g.met.W.Outside.fewer_later c.args.outside.now c.write_head.new.outside c.sync.new.self before.calls.time c.sync.ensures.asks.call.time
     (λ (image seen : List ℕ). IsSame tracks.header c.args.bank.now tracks.records (held_of G c.args.outside.now) image) so_far (c.sync.ensures.asks.crash (before.told tracks.sure.told))
+
+-- what the head asks, by the bank
+head_deeds : (g : Over) (c : goal.After-write_head g) (result : Result (Unit {0}) Failed)
+    → Carries (g.W.Outside.deeds c.write_home.new.outside) (g.W.Outside.deeds c.write_head.new.outside) (Wrote (bank_place c.args.which c.args.bank.now.bank_bytes) (head_bytes (bank_number c.args.bank.now)) ∷ []) result
+    → Carries (g.W.Outside.deeds c.write_home.new.outside) (g.W.Outside.deeds c.write_head.new.outside) (Wrote (bank_place (other c.args.bank.now.which) c.args.bank.now.bank_bytes) (head_bytes (bank_number c.args.bank.now)) ∷ []) result
+head_deeds g c result is =
+    subst (λ (which : Which). Carries (g.W.Outside.deeds c.write_home.new.outside) (g.W.Outside.deeds c.write_head.new.outside) (Wrote (bank_place which c.args.bank.now.bank_bytes) (head_bytes (bank_number c.args.bank.now)) ∷ []) result) c.requires.other is
 
 pub write_head-requires-clause-bank : goal.write_head-requires-clause-bank
 write_head-requires-clause-bank g c = record {
@@ -55,27 +67,60 @@ returns-in_err-write_home g c = record {
       covered_same tracks.header c.args.bank.now tracks.records (held_of g.W.Outside c.args.outside.now) tracks.store tracks.count image (c.write_home.ensures.crash tracks image seen left);
   done = grind (arith, common_steps);
   cause = grind (arith, common_steps);
+  deeds = λ tracks.
+      let G = g.W.Outside in
+      let it = some_more (G.deeds c.args.outside.now) (G.deeds c.write_home.new.outside) (homes_written c.args.bank.now (held_of G c.args.outside.now) (length c.args.bank.now.newest)) (turn_written c.args.bank.now) (c.in_err-write_home.ensures.deeds tracks) in
+      grind (arith, common_steps, it);
 }
 
 pub returns-in_err-write_head : goal.returns-in_err-write_head
 returns-in_err-write_head g c =
     let at = (goal.at.returns-in_err-write_head g c).After-write_head in
-    grind (arith, common_steps, wrote g at, second g at)
+    record {
+      only = wrote g at;
+      crash = λ tracks. second g at tracks;
+      done = grind (arith, common_steps);
+      cause = grind (arith, common_steps);
+      deeds = λ tracks.
+          let G = g.W.Outside in
+          let bank = c.args.bank.now in
+          let home = homes_written bank (held_of G c.args.outside.now) (length bank.newest) in
+          let head = Wrote (bank_place (other bank.which) bank.bank_bytes) (head_bytes (bank_number bank)) in
+          let it =
+              some_on (G.deeds c.args.outside.now) (G.deeds c.write_home.new.outside) (G.deeds c.write_head.new.outside) home (turn_written bank) (c.in_ok-write_home.ensures.deeds tracks)
+              (some_more (G.deeds c.write_home.new.outside) (G.deeds c.write_head.new.outside) (head ∷ []) (Synced ∷ sure_deeds 128 (selector_of (other bank.which) ∷ [])) (head_deeds g at cut c.in_err-write_head.ensures.deeds)) in
+          carries_err _ _ _ _ (grind (arith, common_steps)) it;
+    }
 
 pub returns-in_err-sync : goal.returns-in_err-sync
 returns-in_err-sync g c =
     let at = goal.at.returns-in_err-sync g c in
     let before = wrote g at.After-write_head in
-    grind (arith, common_steps, three g at.After-sync before, λ (tracks : TracksBank g.W.Outside c.args.bank.now c.args.outside.now). third g at.After-sync tracks before (second g at.After-write_head tracks))
+    record {
+      only = three g at.After-sync before;
+      crash = λ tracks. third g at.After-sync tracks before (second g at.After-write_head tracks);
+      done = grind (arith, common_steps);
+      cause = grind (arith, common_steps);
+      deeds = λ tracks.
+          let G = g.W.Outside in
+          let bank = c.args.bank.now in
+          let home = homes_written bank (held_of G c.args.outside.now) (length bank.newest) in
+          let head = Wrote (bank_place (other bank.which) bank.bank_bytes) (head_bytes (bank_number bank)) in
+          let it =
+              some_on (G.deeds c.args.outside.now) (G.deeds c.write_home.new.outside) (G.deeds c.sync.new.self) home (turn_written bank) (c.in_ok-write_home.ensures.deeds tracks)
+              (some_on (G.deeds c.write_home.new.outside) (G.deeds c.write_head.new.outside) (G.deeds c.sync.new.self) (head ∷ []) (Synced ∷ sure_deeds 128 (selector_of (other bank.which) ∷ [])) (head_deeds g at.After-write_head whole c.in_ok-write_head.ensures.deeds)
+              (some_more (G.deeds c.write_head.new.outside) (G.deeds c.sync.new.self) (Synced ∷ []) (sure_deeds 128 (selector_of (other bank.which) ∷ [])) c.in_err-sync.ensures.deeds)) in
+          carries_err _ _ _ _ (grind (arith, common_steps)) it;
+    }
 
 -- the bytes before the selector are sure, and the other bank begins with its head
-sure : (g : Over) (c : goal.After-write_selector g) (tracks : TracksBank g.W.Outside c.args.bank.now c.args.outside.now) → OnlyAsks g.W.Outside c.write_head.new.outside c.sync.new.self → OnlyWrites g.W.Outside c.args.outside.now c.write_head.new.outside → IsSure g.W.Outside c.sync.new.self
+sure : (g : Over) (c : goal.After-write_selector g) (tracks : TracksBank g.W.Outside c.args.bank.now c.args.outside.now) → AsksSo g.W.Outside (SyncsBy c.sync.result) c.write_head.new.outside c.sync.new.self → OnlyWrites g.W.Outside c.args.outside.now c.write_head.new.outside → IsSure g.W.Outside c.sync.new.self
 sure g c tracks asks before =
     let G = g.W.Outside in
     let honest = subst (λ (b : Bool). IsTrue b) (sym before.calls.honest) tracks.sure.honest in
     synced_sure G c.write_head.new.outside c.sync.new.self asks honest (before.told tracks.sure.told) (c.in_ok-sync.ensures.durable honest)
 
-ready : (g : Over) (c : goal.After-write_selector g) (tracks : TracksBank g.W.Outside c.args.bank.now c.args.outside.now) → OnlyAsks g.W.Outside c.write_head.new.outside c.sync.new.self → bank_place c.args.which c.args.bank.now.bank_bytes ≡ bank_at tracks.header (other c.args.bank.now.which)
+ready : (g : Over) (c : goal.After-write_selector g) (tracks : TracksBank g.W.Outside c.args.bank.now c.args.outside.now) → AsksSo g.W.Outside (SyncsBy c.sync.result) c.write_head.new.outside c.sync.new.self → bank_place c.args.which c.args.bank.now.bank_bytes ≡ bank_at tracks.header (other c.args.bank.now.which)
     → IsHeaded tracks.header c.args.bank.now tracks.records (held_of g.W.Outside c.args.outside.now) tracks.store tracks.count (held_of g.W.Outside c.sync.new.self)
 ready g c tracks asks at =
     let G = g.W.Outside in
@@ -119,6 +164,15 @@ returns g c =
           record { sure = wrote_it.sure; stood = here.stood; store = here.store })
           c.write_selector.ensures.done;
       cause = grind arith;
+      deeds = λ tracks.
+          let home = homes_written bank held (length bank.newest) in
+          let head = Wrote (bank_place (other bank.which) bank.bank_bytes) (head_bytes (bank_number bank)) in
+          let end = G.deeds c.write_selector.new.outside in
+          let result = c.write_selector.result in
+          carries_on (G.deeds c.args.outside.now) (G.deeds c.write_home.new.outside) end home (turn_written bank) result (c.in_ok-write_home.ensures.deeds tracks)
+          (carries_on (G.deeds c.write_home.new.outside) (G.deeds c.write_head.new.outside) end (head ∷ []) (Synced ∷ sure_deeds 128 (selector_of (other bank.which) ∷ [])) result (head_deeds g at.After-write_head whole c.in_ok-write_head.ensures.deeds)
+          (carries_on (G.deeds c.write_head.new.outside) (G.deeds c.sync.new.self) end (Synced ∷ []) (sure_deeds 128 (selector_of (other bank.which) ∷ [])) result c.in_ok-sync.ensures.deeds
+          (subst (λ (which : Which). Carries (G.deeds c.sync.new.self) end (sure_deeds 128 (selector_of which ∷ [])) result) c.requires.other c.write_selector.ensures.deeds)));
     }
 
 pub write_selector-requires : goal.write_selector-requires

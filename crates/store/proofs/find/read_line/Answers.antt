@@ -5,8 +5,8 @@ pub returns : goal.returns
 returns g c =
     record {
       asks = asks_on g.W.Outside g.met.W.Outside.fewer_later c.args.outside.now c.read_at.new.self c.read_at-2.new.self
-          (asks_one g.W.Outside c.args.outside.now c.read_at.new.self c.read_at.ensures.asks c.read_at.result c.read_at.ensures.counts)
-          (asks_one g.W.Outside c.read_at.new.self c.read_at-2.new.self c.read_at-2.ensures.asks c.read_at-2.result c.read_at-2.ensures.counts);
+          (asks_one g.W.Outside c.args.outside.now c.read_at.new.self c.read_at.ensures.asks c.read_at.result c.read_at.ensures.counts c.read_at.ensures.deeds)
+          (asks_one g.W.Outside c.read_at.new.self c.read_at-2.new.self c.read_at-2.ensures.asks c.read_at-2.result c.read_at-2.ensures.counts c.read_at-2.ensures.deeds);
       read = λ some.
           let G = g.W.Outside in
           let held = held_of G c.args.outside.now in

@@ -4,6 +4,7 @@ use Rattle.store.specs.Committed.{CopiesLine}
 use Rattle.store.proofs.home.copy_newest.Given.{Over}
 use Rattle.store.proofs.home.copy_newest.Goals as goal
 use Rattle.store.proofs.home.copy_newest.Goals.{In-Some}
+use Rattle.outside.proofs.DeedLemmas.{did_none}
 
 place : (g : Over) (c : goal.In-Some g) → get_or c.args.bank.now.newest c.args.line None ≡ Some c.in-Some.place
 place g c = get_or_from_slice_get c.args.bank.now.newest c.args.line c.newest.result None c.newest.ensures.place ∙ c.in-Some.is
@@ -23,4 +24,4 @@ pub returns-in-None : goal.returns-in-None
 returns-in-None g c =
     let now = c.args.outside.now in
     subst (λ (from : Option ℕ). CopiesLine g.W.Outside (line_bytes_of c.args.bank.now) from (home_place c.args.bank.now c.args.line) now now done) (sym (get_or_from_slice_get c.args.bank.now.newest c.args.line c.newest.result None c.newest.ensures.place ∙ c.in-None.is))
-    (record { only = wrote_nothing g.W.Outside now; crash = λ honest told image seen left. (image, left, refl); done = λ told. refl; cause = record { later = omega arith; failed = tt; done = refl } })
+    (record { only = wrote_nothing g.W.Outside now; crash = λ honest told image seen left. (image, left, refl); done = λ told. refl; cause = record { later = omega arith; failed = tt; done = refl }; deeds = λ told. did_none (g.W.Outside.deeds now) (g.W.Outside.deeds now) refl })

@@ -3,6 +3,8 @@ use Rattle.store.proofs.GateLemmas.{has_body}
 use Rattle.store.proofs.keep.keep_body.Given.{Over}
 use Rattle.store.proofs.keep.keep_body.Goals as goal
 use Rattle.store.proofs.keep.keep_body.Goals.{After-write_sure, After-write_sure-2}
+use Rattle.outside.proofs.DeedLemmas.{did_on}
+use Rattle.store.specs.Below.{sure_deeds}
 
 -- as many bytes are held as the gate and the body want
 room : (g : Over) (c : goal.After-write_sure g) → IsGateShut g.W.Outside c.args.gate c.args.outside.now → c.args.gate + 1 + length c.args.body.now ≤ length (held_of g.W.Outside c.args.outside.now)
@@ -42,6 +44,7 @@ returns-in-Err-write_sure g c = record {
   done = grind (arith, common_steps);
   writes = grind (arith, common_steps);
   counted = grind (arith, common_steps);
+  deeds = (g.W.Outside.deeds c.write_sure.new.outside, c.in-Ok.ensures.deeds, c.in-Err-write_sure.ensures.deeds);
 }
 
 pub returns-in-Ok-write_sure : goal.returns-in-Ok-write_sure
@@ -67,4 +70,7 @@ returns-in-Ok-write_sure g c = record {
       };
   writes = grind (arith, common_steps);
   counted = grind (arith, common_steps);
+  deeds =
+      did_on (g.W.Outside.deeds c.args.outside.now) (g.W.Outside.deeds c.write_sure.new.outside) (g.W.Outside.deeds c.write_sure-2.new.outside) (sure_deeds (c.args.gate + 1) c.args.body.now) (sure_deeds c.args.gate (165 ∷ []))
+      c.in-Ok.ensures.deeds c.in-Ok-write_sure.ensures.deeds;
 }

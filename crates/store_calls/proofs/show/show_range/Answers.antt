@@ -1,5 +1,6 @@
 use Rattle.store_calls.proofs.Common.{rules, ◌+◌, ◌∙◌, ap, subst, sym, start_of, Header, IsInside}
 use Rattle.store_calls.proofs.ShowLemmas.{no_range, not_shown, shown_part, shown_whole}
+use Rattle.outside.proofs.Runs.{opens_some}
 use Rattle.store_calls.proofs.show.show_range.Goals as goal
 
 pub returns-in-Err : goal.returns-in-Err
@@ -9,7 +10,7 @@ returns-in-Err g c =
 
 pub returns-in-Ok-put_range : goal.returns-in-Ok-put_range
 returns-in-Ok-put_range g c =
-    let did = shown_whole g.W.Outside g.met.W.Outside.fewer_later g.met.W.Outside.printed_now c.args.range c.args.outside.now c.open.new.outside c.in-Ok.ensures.asks.asks c.in-Ok.store c.in-Ok.ensures.opened.shows c.in-Ok.ensures.opened.tracks c.in-Ok.ensures.asks.no_fault c.in-Some.at
+    let did = shown_whole g.W.Outside g.met.W.Outside.fewer_later g.met.W.Outside.printed_now c.args.range c.args.outside.now c.open.new.outside (opens_some g.W.Outside c.args.outside.now c.open.new.outside c.open.result c.open.ensures.asks.asks) c.in-Ok.store c.in-Ok.ensures.opened.shows c.in-Ok.ensures.opened.tracks c.in-Ok.ensures.asks.no_fault c.in-Some.at
     (subst (λ (header : Header). IsInside header.directory c.args.range) c.header.ensures c.in-Some.ensures.0)
     (c.in-Some.ensures.1 ∙ ap (λ (header : Header). start_of header.directory c.args.range.segment + c.args.range.from) c.header.ensures)
     c.put_range.new.outside c.in-Ok-put_range.ensures.puts in
@@ -17,7 +18,7 @@ returns-in-Ok-put_range g c =
 
 pub returns-in-Some : goal.returns-in-Some
 returns-in-Some g c =
-    let did = shown_part g.W.Outside g.met.W.Outside.fewer_later g.met.W.Outside.printed_now c.args.range c.args.outside.now c.open.new.outside c.in-Ok.ensures.asks.asks c.in-Ok.store c.in-Ok.ensures.opened.shows c.in-Ok.ensures.opened.tracks c.in-Ok.ensures.asks.no_fault c.in-Some.at
+    let did = shown_part g.W.Outside g.met.W.Outside.fewer_later g.met.W.Outside.printed_now c.args.range c.args.outside.now c.open.new.outside (opens_some g.W.Outside c.args.outside.now c.open.new.outside c.open.result c.open.ensures.asks.asks) c.in-Ok.store c.in-Ok.ensures.opened.shows c.in-Ok.ensures.opened.tracks c.in-Ok.ensures.asks.no_fault c.in-Some.at
     (subst (λ (header : Header). IsInside header.directory c.args.range) c.header.ensures c.in-Some.ensures.0)
     (c.in-Some.ensures.1 ∙ ap (λ (header : Header). start_of header.directory c.args.range.segment + c.args.range.from) c.header.ensures)
     c.put_range.new.outside c.in-Err-put_range.status c.in-Err-put_range.ensures.puts in
@@ -25,6 +26,6 @@ returns-in-Some g c =
 
 pub returns : goal.returns
 returns g c =
-    let did = no_range g.W.Outside g.met.W.Outside.fewer_later g.met.W.Outside.printed_now c.args.range c.args.outside.now c.open.new.outside c.in-Ok.ensures.asks.asks c.in-Ok.store c.in-Ok.ensures.opened.shows c.in-Ok.ensures.opened.tracks c.in-Ok.ensures.asks.no_fault
+    let did = no_range g.W.Outside g.met.W.Outside.fewer_later g.met.W.Outside.printed_now c.args.range c.args.outside.now c.open.new.outside (opens_some g.W.Outside c.args.outside.now c.open.new.outside c.open.result c.open.ensures.asks.asks) c.in-Ok.store c.in-Ok.ensures.opened.shows c.in-Ok.ensures.opened.tracks c.in-Ok.ensures.asks.no_fault
     (λ inside. c.in-None.ensures (subst (λ (header : Header). IsInside header.directory c.args.range) (sym c.header.ensures) inside)) in
     record { did = did; only = search rules; faults = search rules }

@@ -1,9 +1,10 @@
 use Rattle.store_calls.proofs.Common.{arith, asks_one, calls_on, common_steps, rules, List, ℕ, length, Torn, leaves_same, still_told}
+use Rattle.outside.specs.Deeds.{SyncsBy}
 use Rattle.store_calls.proofs.written.write_sure.Goals as goal
 
 pub returns : goal.returns
 returns g c = record {
-  calls = calls_on g.W.Outside g.met.W.Outside.fewer_later c.args.outside.now c.write_at.new.self c.sync.new.self c.write_at.ensures.call.time c.sync.ensures.asks.call.time (grind (arith, common_steps)) (asks_one g.W.Outside c.write_at.new.self c.sync.new.self c.sync.ensures.asks c.sync.result c.sync.ensures.counts).calls;
+  calls = calls_on g.W.Outside g.met.W.Outside.fewer_later c.args.outside.now c.write_at.new.self c.sync.new.self c.write_at.ensures.call.time c.sync.ensures.asks.call.time (grind (arith, common_steps)) (asks_one g.W.Outside {D = SyncsBy c.sync.result} c.write_at.new.self c.sync.new.self c.sync.ensures.asks c.sync.result c.sync.ensures.counts c.sync.ensures.deeds).calls;
   cause = search rules;
   done = search rules;
   untold = search rules;

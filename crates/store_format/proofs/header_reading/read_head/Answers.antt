@@ -6,7 +6,7 @@ pub returns : goal.returns
 returns g c =
     let G = g.W.Outside in
     record {
-      asks = asks_on G g.met.W.Outside.fewer_later c.args.outside.now c.length.new.self c.read_at.new.self (asks_one G c.args.outside.now c.length.new.self c.length.ensures.asks c.length.result c.length.ensures.counts) (asks_one G c.length.new.self c.read_at.new.self c.read_at.ensures.asks c.read_at.result c.read_at.ensures.counts);
+      asks = asks_on G g.met.W.Outside.fewer_later c.args.outside.now c.length.new.self c.read_at.new.self (asks_one G c.args.outside.now c.length.new.self c.length.ensures.asks c.length.result c.length.ensures.counts c.length.ensures.deeds) (asks_one G c.length.new.self c.read_at.new.self c.read_at.ensures.asks c.read_at.result c.read_at.ensures.counts c.read_at.ensures.deeds);
       read = λ told.
           let held = held_of G c.args.outside.now in
           let front = c.split_at_mut-front.result.0.now in

@@ -1,7 +1,8 @@
-use Rattle.real_files.proofs.Common.{inl, inr, refl, arith, Synced, Unsynced}
+use Rattle.real_files.proofs.Common.{inl, inr, refl, ap, arith, Synced, Unsynced}
 use Rattle.std.proofs.lemmas.Grind.{common_steps}
-use Rattle.real_files.proofs.DeedSteps.{still_replayed, count_more, counted, still_unfailed, still_stops, passes, sync_adds, synced_leaves}
+use Rattle.real_files.proofs.DeedSteps.{still_replayed, count_more, cut_one, counted, still_unfailed, still_stops, passes, sync_adds, synced_leaves}
 use Rattle.real_files.specs.Deeds.{deed_failed}
+use Rattle.std.specs.Prelude.{Some}
 use Rattle.real_files.proofs.kept_disk.KeptDiskDisk.sync.Goals as goal
 
 pub invariant_of-self-in-Ok : goal.invariant_of-self-in-Ok
@@ -47,3 +48,9 @@ returns-in-Err-clause-asks g c =
     let disk = c.args.self.now in
     let file = g.F.RawFile in
     grind (arith, common_steps, passes (file.first disk.file) disk.held.items (file.deeds disk.file) disk.replayed (file.first c.sync.new.self) (file.deeds c.sync.new.self) Unsynced c.in-Err.ensures.first c.in-Err.ensures.failed, counted (file.first disk.file) disk.held.items (file.deeds disk.file) disk.replayed (file.first c.sync.new.self) (file.deeds c.sync.new.self) Unsynced c.in-Err.ensures.first c.in-Err.ensures.failed, sync_adds (file.first disk.file) disk.held.items (file.deeds disk.file) disk.replayed (file.first c.sync.new.self) (file.deeds c.sync.new.self) Unsynced c.in-Err.ensures.first c.in-Err.ensures.failed (inr refl))
+
+pub returns-in-Ok-clause-deeds : goal.returns-in-Ok-clause-deeds
+returns-in-Ok-clause-deeds g c = ap Some c.in-Ok.ensures.done
+
+pub returns-in-Err-clause-deeds : goal.returns-in-Err-clause-deeds
+returns-in-Err-clause-deeds g c = cut_one (g.F.RawFile.deeds c.args.self.now.file) (g.F.RawFile.deeds c.sync.new.self) Synced c.in-Err.ensures.failed _ c.fault-in-Err.ensures.fails

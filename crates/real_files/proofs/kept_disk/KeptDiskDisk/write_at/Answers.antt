@@ -1,6 +1,7 @@
-use Rattle.real_files.proofs.Common.{inl, inr, refl, sym, ◌∙◌, arith, Wrote, Tore}
-use Rattle.real_files.proofs.DeedSteps.{still_replayed, count_more, counted, still_unfailed, still_stops, write_follows, where_ok, wrote_some}
+use Rattle.real_files.proofs.Common.{inl, inr, refl, ap, sym, ◌∙◌, arith, Wrote, Tore}
+use Rattle.real_files.proofs.DeedSteps.{still_replayed, count_more, cut_one, counted, still_unfailed, still_stops, write_follows, where_ok, wrote_some}
 use Rattle.real_files.specs.Deeds.{deed_failed}
+use Rattle.std.specs.Prelude.{Some}
 use Rattle.real_files.proofs.kept_disk.KeptDiskDisk.write_at.Goals as goal
 
 pub invariant_of-self-in-Ok : goal.invariant_of-self-in-Ok
@@ -46,3 +47,9 @@ returns-in-Err-clause-crash g c honest told =
 pub returns-in-Err-clause-written : goal.returns-in-Err-clause-written
 returns-in-Err-clause-written g c =
     wrote_some c.fault-in-Err.result c.args.self.now.held.items c.overwrite.new.held.items c.args.at c.args.bytes.now (c.requires _ refl) c.fault-in-Err.ensures.fails (where_ok c.overwrite.result (sym c.is_err.ensures.value ∙ c.if-is_err.false) c.overwrite.ensures.ok)
+
+pub returns-in-Ok-clause-deeds : goal.returns-in-Ok-clause-deeds
+returns-in-Ok-clause-deeds g c = ap Some c.in-Ok.ensures.done
+
+pub returns-in-Err-clause-deeds : goal.returns-in-Err-clause-deeds
+returns-in-Err-clause-deeds g c = cut_one (g.F.RawFile.deeds c.args.self.now.file) (g.F.RawFile.deeds c.write_at.new.self) (Wrote c.args.at c.args.bytes.now) c.in-Err.ensures.failed _ c.fault-in-Err.ensures.fails

@@ -17,7 +17,7 @@ returns-in-Ok g c = subst (λ (old : SessionState). SessionCheckpoint g.W.Outsid
         let tracks : TracksStore G s.store before = record { sure = sure; shows = over.shows } in
         let done = c.in-Ok.ensures.done tracks in
         let crash : Leaves G (λ image seen. stands image ≡ stands (held_of G before)) before after = λ image seen left. (c.in-Ok.ensures.crash tracks image seen left).stood in
-        (did-checkpoint G s store c.self.invariant before after over crash c.in-Ok.ensures.header c.in-Ok.ensures.number done.tracks.sure done.tracks.shows done.stood c.in-Ok.ensures.count, c.number.ensures ∙ c.in-Ok.ensures.number ∙ over.number));
+        (did-checkpoint G s store c.self.invariant before after over crash c.in-Ok.ensures.header c.in-Ok.ensures.number done.tracks.sure done.tracks.shows done.stood c.in-Ok.ensures.count (c.in-Ok.ensures.deeds tracks), c.number.ensures ∙ c.in-Ok.ensures.number ∙ over.number));
     writes = first_of (search rules, grind (arith, common_steps));
     shut = first_of (search rules, grind (arith, common_steps));
     told = first_of (search rules, grind (arith, common_steps));
@@ -37,7 +37,7 @@ returns-in-Err g c = subst (λ (old : SessionState). SessionCheckpoint g.W.Outsi
         takes G event.Checkpoint (λ desk. CheckpointFailed) (λ number. Unit {0}) s (record s { store = store; closed = true }) before after (λ over sure.
         let tracks : TracksStore G s.store before = record { sure = sure; shows = over.shows } in
         let crash : Leaves G (λ image seen. stands image ≡ stands (held_of G before)) before after = λ image seen left. (c.in-Err.ensures.crash tracks image seen left).stood in
-        (did-fail-checkpoint G s store c.self.invariant before after over crash c.in-Err.ensures.cause.failed, tt));
+        (did-fail-checkpoint G s store c.self.invariant before after over crash c.in-Err.ensures.cause.failed (c.in-Err.ensures.deeds tracks), tt));
     writes = first_of (search rules, grind (arith, common_steps));
     shut = first_of (search rules, grind (arith, common_steps));
     told = first_of (search rules, grind (arith, common_steps));

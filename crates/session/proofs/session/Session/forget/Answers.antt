@@ -1,3 +1,4 @@
+use Rattle.outside.proofs.Runs.{opens_some}
 use Rattle.store_format.specs.Stands.{HasHeader}
 use Rattle.session.proofs.Common.{ShowsDesk}
 use Rattle.session.proofs.Lemmas.{common_steps, rules, arith, sym, Header, ◌≡◌, ◌∙◌, subst, true, held_of, reopened_holds, numbers, Crashed, CrashFailed, SessionState, session_told, deserted-sound, takes}
@@ -18,8 +19,8 @@ returns-in-Ok g c = subst (λ (old : SessionState). SessionCrash g.W.Outside old
         takes G event.Crash (λ desk. Crashed (numbers desk)) (λ number. c.number.result ≡ number) s (record s { store = store; activations = left }) before after (λ over sure.
         let gone = c.forget.ensures.restarts over.committed over.follows in
         let tracks = c.in-Ok.ensures.read.tracks (subst (λ (header : Header). HasHeader (held_of G before) header) (sym c.in-Ok.ensures.header) over.shows.header) sure.honest sure.told in (
-          did-crash G s store c.in-Ok.ensures.header left c.sound.ensures c.self.invariant before after sure over gone c.in-Ok.ensures.asks.asks tracks,
-          c.number.ensures ∙ number-restarted G s store c.in-Ok.ensures.header left c.sound.ensures c.self.invariant before after sure over gone c.in-Ok.ensures.asks.asks tracks,
+          did-crash G s store c.in-Ok.ensures.header left c.sound.ensures c.self.invariant before after sure over gone c.in-Ok.ensures.asks.asks tracks c.in-Ok.ensures.asks.asks.deeds,
+          c.number.ensures ∙ number-restarted G s store c.in-Ok.ensures.header left c.sound.ensures c.self.invariant before after sure over gone c.in-Ok.ensures.asks.asks tracks c.in-Ok.ensures.asks.asks.deeds,
         ));
     shut = first_of (search rules, grind (arith, common_steps));
     told = first_of (search rules, grind (arith, common_steps));
@@ -28,7 +29,7 @@ returns-in-Ok g c = subst (λ (old : SessionState). SessionCrash g.W.Outside old
         λ told.
         let holds = reopened_holds (held_of g.W.Outside c.args.outside.now) c.self.inside.state.store.header c.reopen.new.self c.in-Ok.ensures.header (c.in-Ok.ensures.read.read told) in
         (holds.0, holds.1, holds.2, c.number.ensures ∙ holds.3);
-    asks = first_of (search rules, grind (arith, common_steps));
+    asks = opens_some g.W.Outside c.args.outside.now c.reopen.new.outside c.reopen.result c.reopen.ensures.asks.asks;
   };
   number = first_of (search rules, grind (arith, common_steps));
   undamaged = first_of (search rules, grind (arith, common_steps));
@@ -42,7 +43,7 @@ returns-in-Err-Damaged g c = subst (λ (old : SessionState). SessionCrash g.W.Ou
       let did =
       takes G event.Crash (λ desk. CrashFailed (numbers desk)) (λ number. ⊥) s (record s { store = c.reopen.new.self; activations = c.forget.new.self; closed = true }) c.args.outside.now c.reopen.new.outside
       (λ over sure. absurd (undamaged s (held_of G c.args.outside.now) over c.in-Err-Damaged.offset (fault sure.told))) in
-      record { did = did; shut = search rules; told = search rules; failed = search rules; damage = search rules; asks = search rules };
+      record { did = did; shut = search rules; told = search rules; failed = search rules; damage = search rules; asks = opens_some G c.args.outside.now c.reopen.new.outside c.reopen.result c.reopen.ensures.asks.asks };
   number = first_of (search rules, grind (arith, common_steps));
   undamaged =
       λ desk offset told shown same.
@@ -59,8 +60,8 @@ returns-in-Err-DiskFault g c = subst (λ (old : SessionState). SessionCrash g.W.
       let fault = subst (λ (fault : ReopenFault). IsStoreReopenFault G before after s.store.header fault) c.in-Err-DiskFault.field-0-is c.in-Err-DiskFault.ensures.asks.fault in
       let did =
       takes G event.Crash (λ desk. CrashFailed (numbers desk)) (λ number. Unit {0}) s (record s { store = store; activations = left; closed = true }) before after
-      (λ over sure. (did-fail-crash G s store c.in-Err-DiskFault.ensures.header left c.sound.ensures c.self.invariant before after sure over (c.forget.ensures.restarts over.committed over.follows) c.in-Err-DiskFault.ensures.asks.asks fault, tt)) in
-      record { did = did; shut = search rules; told = search rules; failed = search rules; damage = search rules; asks = search rules };
+      (λ over sure. (did-fail-crash G s store c.in-Err-DiskFault.ensures.header left c.sound.ensures c.self.invariant before after sure over (c.forget.ensures.restarts over.committed over.follows) c.in-Err-DiskFault.ensures.asks.asks fault c.in-Err-DiskFault.ensures.asks.asks.deeds, tt)) in
+      record { did = did; shut = search rules; told = search rules; failed = search rules; damage = search rules; asks = opens_some G c.args.outside.now c.reopen.new.outside c.reopen.result c.reopen.ensures.asks.asks };
   number = first_of (search rules, grind (arith, common_steps));
   undamaged = first_of (search rules, grind (arith, common_steps));
 })

@@ -1,5 +1,10 @@
 use Rattle.session.proofs.Common.{rules, held_of, byte_count, FlatStore, Header, most_lines, opened, Activity, Begins, activity, SessionState, length, false, ◌≡◌, refl, sym, ◌∙◌, ap, subst}
 use Rattle.session.proofs.OpeningLemmas.{IsMade, made-opened, has-stood}
+use Rattle.std.proofs.Common.{[], ◌∷◌, arith}
+use Rattle.std.proofs.lemmas.Grind.{common_steps}
+use Rattle.outside.proofs.DeedLemmas.{carries_err}
+use Rattle.outside.proofs.Runs.{asks_as, opens_some}
+use Rattle.outside.specs.Deeds.{Synced}
 use Rattle.session.proofs.session.Session.open.Given as given
 use Rattle.session.proofs.session.Session.open.Goals as goal
 
@@ -58,3 +63,21 @@ invariant_of-result g c = record {
   room = search rules;
   usable = λ still. c.in_ok-store.ensures.opened.usable;
 }
+
+pub returns-in_err-printed-clause-asks : goal.returns-in_err-printed-clause-asks
+returns-in_err-printed-clause-asks g c =
+    let G = g.W.Outside in let old = c.args.outside.now in let new = c.open.new.outside in
+    let asks = opens_some G old new c.open.result c.open.ensures.asks.asks in
+    asks_as G old new asks (carries_err (G.deeds old) (G.deeds new) (Synced ∷ []) c.from_residual-in_err-printed.result (grind (arith, common_steps)) asks.deeds)
+
+pub returns-in_err-order-clause-asks : goal.returns-in_err-order-clause-asks
+returns-in_err-order-clause-asks g c =
+    let G = g.W.Outside in let old = c.args.outside.now in let new = c.open.new.outside in
+    let asks = opens_some G old new c.open.result c.open.ensures.asks.asks in
+    asks_as G old new asks (carries_err (G.deeds old) (G.deeds new) (Synced ∷ []) c.from_residual-in_err-order.result (grind (arith, common_steps)) asks.deeds)
+
+pub returns-in_err-activations-clause-asks : goal.returns-in_err-activations-clause-asks
+returns-in_err-activations-clause-asks g c =
+    let G = g.W.Outside in let old = c.args.outside.now in let new = c.open.new.outside in
+    let asks = opens_some G old new c.open.result c.open.ensures.asks.asks in
+    asks_as G old new asks (carries_err (G.deeds old) (G.deeds new) (Synced ∷ []) c.from_residual-in_err-activations.result (grind (arith, common_steps)) asks.deeds)

@@ -1,9 +1,9 @@
 use Rattle.session.proofs.Lemmas.{common_steps, rules, ◌≡◌, ◌+◌, ◌-◌, Fixed, session_told, ◌%◌, ◌^◌, ◌∙◌, ◌∷◌, [], length, refl, sym, ap, subst, arith, Some, length-append, true, false, has, Commit, row, begun_of, Kept, StoreView, store_number, TracksStore, held_of, over_all, committed_at, sitter, number_in, taken-below, Activity, live_in, program_in, entry_in, store_over, desk_over, shown, KeepsDesk, rolled, reprinted, SessionState, activity, with_record, HoldsStore, Header, stored-sound, closes-now}
 use Rattle.flat_machine.specs.After.{after as after_rows}
-use Rattle.store.specs.declared.keep.Kept.TheVariants.{Unwritten, Doubt}
+use Rattle.store.specs.declared.keep.Kept.TheVariants.{Done, Unwritten, Doubt}
 use Rattle.store.specs.Committed.{roomy, number_by_answer, IsKeptAfter}
 use Rattle.session.proofs.JournalLemmas.{commit-adds}
-use Rattle.session.proofs.CommitLemmas.{order-more, writes-more, gone, has_place, sound-left, sound-closed, out-is, tracked, went-done, went-doubt, went-unwritten}
+use Rattle.session.proofs.CommitLemmas.{asked-so, order-more, writes-more, gone, has_place, sound-left, sound-closed, out-is, tracked, went-done, went-doubt, went-unwritten}
 use Rattle.session.proofs.session.SessionState.commit.Goals as goal
 
 pub committed_in-committed-requires-clause-seat : goal.committed_in-committed-requires-clause-seat
@@ -136,6 +136,7 @@ returns-in-Done g c = record {
       (subst (λ (store : StoreView). TracksStore G store after) (sym (ap (λ (n : SessionState). n.store) others)) done.tracks)
       done.stood (c.commit.ensures.crash tracks)
       (commit-adds c.record.new.store _ (held_of G before) (held_of G after) tracks.shows done.tracks.shows c.commit.ensures.header c.in-Done.ensures.kept (c.commit.ensures.records tracks).held)
+      (asked-so G s seat c.requires.sound before after over at.now lines gives c.record.new.store begun tracks Done (c.in-Done.ensures.deeds tracks))
       c.args.tally.now _ refl;
 }
 
@@ -178,6 +179,7 @@ returns-in-Doubt g c = record {
         kept = subst (λ (store : StoreView). IsKeptAfter Doubt (roomy there.bank) there.bank store.bank) (sym (ap (λ (n : SessionState). n.store) others)) c.in-Doubt.ensures.kept;
         crash = c.commit.ensures.crash;
         left = c.in-Doubt.ensures.left;
+        deeds = c.in-Doubt.ensures.deeds;
       });
   went =
       λ begins sure over at.
@@ -190,7 +192,7 @@ returns-in-Doubt g c = record {
       (c.committed_in-committed.ensures.activation ∙ ap (λ (a : Activity). number_in a.seating seat) c.in_default.ensures.kept)
       (c.committed_in-committed.ensures.steps ∙ ap (λ (a : Activity). (sitter a.seating seat).rows + 1) c.in_default.ensures.kept)
       refl c.enter_order-in-Doubt.ensures.order c.args.tally.now (roomy c.record.new.store.bank).gate
-      c.in-Doubt.ensures.counted (c.commit.ensures.crash tracks) (c.in-Doubt.ensures.left tracks);
+      c.in-Doubt.ensures.counted (asked-so G s seat c.requires.sound before after over at.now lines gives c.record.new.store begun tracks Doubt (c.in-Doubt.ensures.deeds tracks)) (c.commit.ensures.crash tracks) (c.in-Doubt.ensures.left tracks);
 }
 
 pub returns-in-Unwritten : goal.returns-in-Unwritten
@@ -211,6 +213,7 @@ returns-in-Unwritten g c = record {
         kept = c.in-Unwritten.ensures.kept;
         crash = c.commit.ensures.crash;
         left = c.in-Unwritten.ensures.left;
+        deeds = c.in-Unwritten.ensures.deeds;
       });
   went =
       λ begins sure over at.
@@ -220,5 +223,5 @@ returns-in-Unwritten g c = record {
       let gives = c.in_default.ensures.laid over.committed at.now at.follows at.at at.goes in
       let tracks = tracked G s seat c.requires.sound before after over at.now lines gives sure c.record.new.store begun in
       went-unwritten G s seat c.requires.sound before after over at.now lines gives c.number-number.result (c.number-number.ensures ∙ ap store_number begun) _
-      refl refl c.args.tally.now c.in-Unwritten.ensures.counted (c.in-Unwritten.ensures.left tracks);
+      refl refl c.args.tally.now c.in-Unwritten.ensures.counted (asked-so G s seat c.requires.sound before after over at.now lines gives c.record.new.store begun tracks Unwritten (c.in-Unwritten.ensures.deeds tracks)) (c.in-Unwritten.ensures.left tracks);
 }

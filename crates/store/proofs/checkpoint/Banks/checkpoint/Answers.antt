@@ -1,8 +1,11 @@
 use Rattle.store.proofs.Lemmas.{common_steps, IsCheckpointed, ◌≡◌, ℕ, ◌+◌, List, [], length, refl, sym, subst, ◌∙◌, ap, arith, replicate, length-replicate, get_or-replicate, Which, Header, header_of, area_at, IsStore, Leaves, held_of, leaves_held, BankView, TracksBank, HoldsRecords, bank_turned, place_is, other, IsSame, IsMoved, Option, None, take, held_since}
 use Rattle.store.specs.Kept.{bank_number}
+use Rattle.store.proofs.Common.{Result, Failed}
 use Rattle.store.proofs.checkpoint.Banks.checkpoint.Given.{Over}
 use Rattle.store.proofs.checkpoint.Banks.checkpoint.Goals as goal
 use Rattle.store.proofs.checkpoint.Banks.checkpoint.Goals.{After-move_to, After-turn_to}
+use Rattle.store.specs.Below.{Carries}
+use Rattle.store.specs.Exact.{checkpoint_deeds}
 
 -- the images since the start
 crash : (g : Over) (c : goal.After-move_to g) (tracks : TracksBank g.W.Outside c.args.self.now c.args.outside.now)
@@ -17,8 +20,25 @@ held g c tracks =
     held_since G g.met.W.Outside.fewer_later g.met.W.Outside.held_now c.args.outside.now c.move_to.new.outside c.move_to.ensures.only tracks.sure.told
     (IsSame tracks.header c.args.self.now tracks.records (held_of G c.args.outside.now)) (crash g c tracks)
 
+-- what the move asks, by the banks
+moves : (g : Over) (c : goal.After-move_to g) → TracksBank g.W.Outside c.args.self.now c.args.outside.now → Carries (g.W.Outside.deeds c.args.outside.now) (g.W.Outside.deeds c.move_to.new.outside) (checkpoint_deeds c.args.self.now (held_of g.W.Outside c.args.outside.now)) c.move_to.result
+moves g c =
+    subst (λ (bank : BankView). TracksBank g.W.Outside bank c.args.outside.now → Carries (g.W.Outside.deeds c.args.outside.now) (g.W.Outside.deeds c.move_to.new.outside) (checkpoint_deeds bank (held_of g.W.Outside c.args.outside.now)) c.move_to.result) c.self.view_is c.move_to.ensures.deeds
+
 pub returns-in-Err : goal.returns-in-Err
-returns-in-Err g c = let at = (goal.at.returns-in-Err g c).After-move_to in grind (arith, common_steps, crash g at, held g at)
+returns-in-Err g c =
+    let at = (goal.at.returns-in-Err g c).After-move_to in
+    record {
+      only = grind (arith, common_steps);
+      shape = grind (arith, common_steps);
+      kept = grind (arith, common_steps);
+      fits = grind (arith, common_steps);
+      cause = grind (arith, common_steps);
+      deeds = λ tracks. subst (λ (result : Result (Unit {0}) Failed). Carries (g.W.Outside.deeds c.args.outside.now) (g.W.Outside.deeds c.move_to.new.outside) (checkpoint_deeds c.args.self.now (held_of g.W.Outside c.args.outside.now)) result) c.in-Err.is (moves g at tracks);
+      crash = λ tracks. crash g at tracks;
+      held = λ tracks. held g at tracks;
+      done = grind (arith, common_steps);
+    }
 
 -- the bank that was turned to is tracked
 made : (g : Over) (c : goal.After-turn_to g) (tracks : TracksBank g.W.Outside c.args.self.now c.args.outside.now) → IsCheckpointed g.W.Outside c.args.self.now c.turn_to.new.self c.args.outside.now c.move_to.new.outside
@@ -55,4 +75,16 @@ made g c tracks =
     }
 
 pub returns-in-Ok : goal.returns-in-Ok
-returns-in-Ok g c = let at = goal.at.returns-in-Ok g c in grind (arith, common_steps, crash g at.After-move_to, held g at.After-move_to, made g at.After-turn_to)
+returns-in-Ok g c =
+    let at = goal.at.returns-in-Ok g c in
+    record {
+      only = grind (arith, common_steps);
+      shape = grind (arith, common_steps);
+      kept = grind (arith, common_steps);
+      fits = grind (arith, common_steps);
+      cause = grind (arith, common_steps);
+      deeds = λ tracks. subst (λ (result : Result (Unit {0}) Failed). Carries (g.W.Outside.deeds c.args.outside.now) (g.W.Outside.deeds c.move_to.new.outside) (checkpoint_deeds c.args.self.now (held_of g.W.Outside c.args.outside.now)) result) c.in-Ok.is (moves g at.After-move_to tracks);
+      crash = λ tracks. crash g at.After-move_to tracks;
+      held = λ tracks. held g at.After-move_to tracks;
+      done = λ tracks. made g at.After-turn_to tracks;
+    }

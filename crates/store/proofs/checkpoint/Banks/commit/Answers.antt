@@ -1,5 +1,7 @@
 use Rattle.store.proofs.Lemmas.{◌≡◌, inl, sym, subst, ◌∙◌, ap, arith, Option, IfSome, held_of, None, Some, BankView, emptied, roomy, Commits, CountsKept, FailedLeaves, bank_appended, kept_in, Kept, appended_apart, carried, leaves_committed, kept_after, roomy_full, roomy_fits, two_more}
+use Rattle.store.proofs.Common.{refl}
 use Rattle.store.proofs.checkpoint.Banks.commit.Goals as goal
+use Rattle.store.specs.Exact.{KeepsRecord}
 
 -- a full bank was left alone, and so was the disk
 pub returns-in-None : goal.returns-in-None
@@ -30,6 +32,7 @@ returns-in-Some g c =
       kept = kept_after kept bank bank c.append.new.self (c.append.ensures.kept ∙ ap (λ (answer : Option Kept). bank_appended answer bank) told);
       counted = subst (λ (answer : Option Kept). IfSome answer (CountsKept G before after)) told c.append.ensures.counted;
       writes = λ is. two_more (G.writes before) (G.writes before) (G.writes after) (λ count was. (count, was, omega arith)) (c.append.ensures.writes (c.kept.ensures.done (c.in-Some.is ∙ ap Some is)));
+      deeds = λ tracks. inl (refl, subst (λ (answer : Option Kept). IfSome answer (KeepsRecord (G.deeds before) (G.deeds after) bank)) told c.append.ensures.deeds);
       crash = c.append.ensures.crash;
       left = λ tracks. subst (λ (answer : Option Kept). IfSome answer (FailedLeaves G bank bank before after)) told (c.append.ensures.left tracks);
       records = λ tracks.

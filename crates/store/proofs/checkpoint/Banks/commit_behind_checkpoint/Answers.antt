@@ -1,7 +1,9 @@
 use Rattle.store.proofs.Lemmas.{◌≡◌, inl, inr, ⊎_elim, ℕ, List, [], sym, subst, ◌∙◌, ap, arith, Option, IfSome, Some, Header, RecordLine, stands, one_more, Leaves, held_of, leaves_on, BankView, begun_of, TracksBank, IsEither, HoldsOneOf, HoldsCommitted, IsSameBut, IsCommitOffset, needed_end, writes_on, other, emptied, CountsKept, FailedLeaves, bank_appended, kept_in, Kept, IsApart, but_on, adds_same, appended_apart, behind_apart, leaves_committed, answered_by, counts_on, either_same, failed_behind, kept_after, shape_on, two_more, nil_from_length}
+use Rattle.store.proofs.Common.{refl}
 use Rattle.store.proofs.checkpoint.Banks.commit_behind_checkpoint.Given.{Over}
 use Rattle.store.proofs.checkpoint.Banks.commit_behind_checkpoint.Goals as goal
 use Rattle.store.proofs.checkpoint.Banks.commit_behind_checkpoint.Goals.{After-checkpoint}
+use Rattle.store.specs.Exact.{KeepsRecord}
 
 -- what stood stands while the checkpoint is made
 stood : (g : Over) (c : goal.After-checkpoint g) → TracksBank g.W.Outside c.args.self.now c.args.outside.now → Leaves g.W.Outside (λ image seen. stands image ≡ stands (held_of g.W.Outside c.args.outside.now)) c.args.outside.now c.checkpoint.new.outside
@@ -16,6 +18,7 @@ returns-in-Err g c =
       kept = inr c.in-Err.ensures.kept;
       counted = c.in-Err.ensures.cause.failed;
       writes = λ is. cc;
+      deeds = λ tracks. inr (refl, inr (refl, c.in-Err.ensures.deeds tracks));
       crash = λ tracks image seen left. inl (stood g at tracks image seen left);
       left = stood g at;
       records = λ tracks.
@@ -48,6 +51,8 @@ returns-in-Ok g c =
       kept = kept_after kept (emptied old) old c.append.new.self (c.append.ensures.kept ∙ ap (λ (answer : Option Kept). bank_appended answer bank) told ∙ ap (bank_appended (Some kept)) turned);
       counted = counts_on G before mid after kept c.in-Ok.ensures.cause.done (subst (λ (answer : Option Kept). IfSome answer (CountsKept G mid after)) told c.append.ensures.counted);
       writes = λ is. two_more (G.writes before) (G.writes mid) (G.writes after) first.writes (c.append.ensures.writes (c.kept.ensures.done (answered ∙ ap Some is)));
+      deeds = λ tracks.
+          inr (refl, inl (G.deeds mid, c.in-Ok.ensures.deeds tracks, subst (λ (bank : BankView). KeepsRecord (G.deeds mid) (G.deeds after) bank kept) turned (subst (λ (answer : Option Kept). IfSome answer (KeepsRecord (G.deeds mid) (G.deeds after) bank)) told c.append.ensures.deeds)));
       crash = λ tracks.
           let made = c.in-Ok.ensures.done tracks in
           leaves_on G g.met.W.Outside.fewer_later before mid after first.calls.time later.calls.time (IsEither (begun_of old) (held_of G before))

@@ -1,10 +1,13 @@
-use Rattle.store.proofs.Lemmas.{nat_tests, ◌≡◌, ℕ, ◌+◌, ◌*◌, List, [], ◌∷◌, ◌++◌, length, drop, slice_set, refl, sym, subst, ◌∙◌, ap, arith, rules, length-append, Option, None, Some, IfSome, SameShape, IsAppended, entry_bytes, RecordLine, lines_from, wrong_line, record_bytes, length-take-le, leaves_held, IsStore, stands, one_more, held_of, noted, AreNewest, BankView, end_of, begun_of, spoilt, begun_count, begun_lines, kept_of, TracksBank, IsEither, HoldsOneOf, IsSafe, IsGateShut, needed_end, take, IsReadied, make_ready, shut, either, one_of, same, more, after, doubted, filled_lines, says_room, begun_is, fields_tracked, with_record_is, is_begun, unwrapped, below_in_order, newest_more, held_left, Appends, CountsKept, FailedLeaves, bank_appended, kept_in, Kept}
+use Rattle.store.proofs.Lemmas.{nat_tests, ◌≡◌, ℕ, ◌+◌, ◌*◌, ◌%◌, ◌^◌, List, [], ◌∷◌, ◌++◌, length, drop, slice_set, refl, sym, subst, ◌∙◌, ap, arith, rules, length-append, Option, None, Some, IfSome, SameShape, IsAppended, entry_bytes, RecordLine, lines_from, wrong_line, record_bytes, length-take-le, leaves_held, IsStore, stands, one_more, held_of, noted, AreNewest, BankView, end_of, begun_of, spoilt, begun_count, begun_lines, kept_of, TracksBank, IsEither, HoldsOneOf, IsSafe, IsGateShut, needed_end, take, IsReadied, make_ready, shut, either, one_of, same, more, after, doubted, filled_lines, says_room, begun_is, fields_tracked, with_record_is, is_begun, unwrapped, below_in_order, newest_more, held_left, Appends, CountsKept, FailedLeaves, bank_appended, kept_in, Kept}
 use Rattle.store.specs.declared.keep.Appended.{Appended}
+use Rattle.store.proofs.AppendLemmas.{body_of, length-lines_from}
+use Rattle.store_format.specs.Body.{IsBody}
 use Rattle.store.specs.declared.keep.Appended.TheVariants as appending
 use Rattle.store.specs.declared.keep.Kept.TheVariants as keeping
 use Rattle.store.proofs.redo_journal.Bank.append.Given.{Over}
 use Rattle.store.proofs.redo_journal.Bank.append.Goals as goal
 use Rattle.store.proofs.redo_journal.Bank.append.Goals.{After-keep_body, After-note}
+use Rattle.store.specs.Exact.{IsRecordBody, KeepsRecord, KeepsDeeds}
 
 pub unwrap-begun-requires : goal.unwrap-begun-requires
 unwrap-begun-requires g c = is_begun c.self.inside c.args.self.now c.self.view_is c.requires.begun
@@ -53,6 +56,29 @@ since : (g : Over) (c : goal.After-keep_body g) → IsGateShut g.W.Outside c.sel
     → IsSafe c.self.inside.gate c.record_of.result.now (held_of g.W.Outside c.args.outside.now) image
 since g c shut image seen left = c.keep_body.ensures.crash shut image seen (g.met.W.Outside.fewer_later c.keep_body.new.outside _ _ image seen c.keep_body.ensures.only.calls.time.later left)
 
+-- the body is that of the begun record
+record_body : (g : Over) (c : goal.After-keep_body g) → IsRecordBody c.args.self.now c.record_of.result.now
+record_body g c =
+    let n = count g c in
+    let bank = c.self.inside in
+    let kept = kept_of bank in
+    let made : IsBody bank.page (length bank.newest) (((bank.base + bank.count) % 2 ^ 64 + 1) % 2 ^ 64) bank.gate (begun_count bank) (begun_lines bank) (take (11 + entry_bytes bank.page * begun_count bank) c.fill.new.body) =
+    body_of bank.page (length bank.newest) (((bank.base + bank.count) % 2 ^ 64 + 1) % 2 ^ 64) bank.gate (begun_count bank) bank.body c.fill.new.body (omega (arith, c.self.invariant.buffer, c.self.invariant.fits)) c.fill.ensures.len (c.fill.ensures.counted ∙ sym n)
+    (c.fill.ensures.numbered ∙ omega (arith, c.number_of-due.ensures)) (rw n c.fill.ensures.lines) (rw n c.fill.ensures.closed) c.self.invariant.ordered in
+    let here : IsBody bank.page (length bank.newest) (((bank.base + bank.count) % 2 ^ 64 + 1) % 2 ^ 64) bank.gate (begun_count bank) (begun_lines bank) c.record_of.result.now =
+    subst (λ (these : List ℕ). IsBody bank.page (length bank.newest) (((bank.base + bank.count) % 2 ^ 64 + 1) % 2 ^ 64) bank.gate (begun_count bank) (begun_lines bank) these) (sym (rw n c.record_of.ensures)) made in
+    let lines = begun_is bank kept refl in
+    let counted : begun_count bank ≡ length (begun_of kept) = sym (length-lines_from bank.page (begun_count bank) (bank.gate + 11) (drop 10 bank.body)) ∙ ap (λ (these : List RecordLine). length these) lines in
+    subst (λ (kept : BankView). IsRecordBody kept c.record_of.result.now) c.self.view_is
+    (subst (λ (those : List RecordLine). IsBody bank.page (length bank.newest) (((bank.base + bank.count) % 2 ^ 64 + 1) % 2 ^ 64) bank.gate (length (begun_of kept)) those c.record_of.result.now) lines
+    (subst (λ (k : ℕ). IsBody bank.page (length bank.newest) (((bank.base + bank.count) % 2 ^ 64 + 1) % 2 ^ 64) bank.gate k (begun_lines bank) c.record_of.result.now) counted here))
+
+-- and it was kept behind the gate
+recorded : (g : Over) (c : goal.After-keep_body g) → KeepsRecord (g.W.Outside.deeds c.args.outside.now) (g.W.Outside.deeds c.keep_body.new.outside) c.args.self.now c.keep_body.result
+recorded g c =
+    let at : c.self.inside.gate ≡ c.args.self.now.gate = ap (λ (those : BankView). those.gate) c.self.view_is in
+    (c.record_of.result.now, record_body g c, subst (λ (gate : ℕ). KeepsDeeds (g.W.Outside.deeds c.args.outside.now) (g.W.Outside.deeds c.keep_body.new.outside) gate c.record_of.result.now c.keep_body.result) at c.keep_body.ensures.deeds)
+
 -- what an append leaves that found room, where it is answered by how the body was kept
 appends : (g : Over) (c : goal.After-keep_body g) (new : BankView) (answer : Appended) → kept_in answer ≡ Some c.keep_body.result → new ≡ bank_appended (kept_in answer) c.args.self.now → SameShape c.args.self.now new
     → (TracksBank g.W.Outside c.args.self.now c.args.outside.now → IfSome (kept_in answer) (FailedLeaves g.W.Outside c.args.self.now c.args.self.now c.args.outside.now c.keep_body.new.outside))
@@ -73,6 +99,7 @@ appends g c new answer told kept shape failed done =
       full = (λ is. absurd (room is), λ full. let no : ⊥ = omega (arith, sized g c, full, says.end, says.need, c.end_of.ensures.value, c.if-end_of-self.false) in absurd no);
       nothing = λ is. absurd (room is);
       counted = subst (λ (those : Option Kept). IfSome those (CountsKept G before after)) (sym told) c.keep_body.ensures.counted;
+      deeds = subst (λ (those : Option Kept). IfSome those (KeepsRecord (G.deeds before) (G.deeds after) old)) (sym told) (recorded g c);
       writes = λ is. let same : Some c.keep_body.result ≡ Some keeping.Done = sym told ∙ ap kept_in is in c.keep_body.ensures.writes cc;
       crash = λ tracks image seen was. subst (λ (lines : List RecordLine). IsEither lines (held_of G before) image seen) (begun g c) (either _ _ _ _ _ _ _ _ _ (ready g c tracks).ready image (c.keep_body.ensures.crash (shut_gate g c tracks) image seen was) seen);
       apart = λ tracks image seen was.

@@ -2,6 +2,8 @@ use Rattle.store.proofs.Lemmas.{◌≡◌, [], ap, subst, sym, ◌∙◌, ⊎_el
 use Rattle.store.specs.Kept.{BankView, bank_number}
 use Rattle.store.specs.Tracks as journal
 use Rattle.store.proofs.restart.Durable.checkpoint.Goals as goal
+use Rattle.store.specs.Below.{Carries}
+use Rattle.store.specs.Exact.{checkpoint_deeds}
 
 pub checkpoint-requires : goal.checkpoint-requires
 checkpoint-requires g c = record {
@@ -29,6 +31,7 @@ returns g c =
       number = grind (arith, common_steps);
       count = grind (arith, common_steps);
       cause = c.checkpoint.ensures.cause;
+      deeds = λ tracks. subst (λ (kept : BankView). journal.TracksBank G kept before → Carries (G.deeds before) (G.deeds after) (checkpoint_deeds kept (held_of G before)) c.checkpoint.result) bank c.checkpoint.ensures.deeds (bank_tracked G old before tracks);
       crash = λ tracks.
           subst (λ (kept : BankView). (tracks : journal.TracksBank G kept before) → Leaves G (λ image seen. IsSame tracks.header kept tracks.records (held_of G before) image) before after) bank c.checkpoint.ensures.crash (bank_tracked G old before tracks);
       held = held;

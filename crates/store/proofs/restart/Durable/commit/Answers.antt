@@ -29,6 +29,7 @@ returns g c =
       count = count_kept c.commit.result old.bank bank did.kept;
       counted = did.counted;
       writes = did.writes;
+      deeds = λ tracks. did.deeds (bank_tracked G old before tracks);
       crash = λ tracks. did.crash (bank_tracked G old before tracks);
       left = λ tracks. did.left (bank_tracked G old before tracks);
       records = λ tracks. did.records (bank_tracked G old before tracks);

@@ -1,16 +1,22 @@
-use Rattle.store.proofs.Lemmas.{common_steps, ◌≡◌, ℕ, List, [], ap, subst, sym, IsSome, ◌∙◌, Option, unwrap_or, held_of, asks_on, IsChosen, Shows, arith, opening_fault, sure_on, shows_read}
+use Rattle.store.proofs.Lemmas.{common_steps, ◌≡◌, ℕ, List, [], ap, subst, sym, IsSome, ◌∙◌, Option, unwrap_or, held_of, IsChosen, Shows, arith, opening_fault, sure_on, shows_read}
+use Rattle.outside.proofs.Runs.{asks_on, opened_once}
 use Rattle.store.proofs.restart.Durable.open.Goals as goal
 
 pub returns-in-Err-clause-asks : goal.returns-in-Err-clause-asks
 returns-in-Err-clause-asks g c = record {
-  asks = asks_on g.W.Outside g.met.W.Outside.fewer_later c.args.outside.now c.start.new.outside c.open.new.outside c.in_ok-header.ensures.asks.asks c.open.ensures.asks.asks;
+  asks = opened_once g.W.Outside g.met.W.Outside.fewer_later c.args.outside.now c.start.new.outside c.open.new.outside c.in_ok-header.ensures.asks.asks c.open.ensures.asks.asks;
   no_fault = grind arith;
   fault = opening_fault g.W.Outside c.args.outside.now c.start.new.outside c.open.new.outside c.in_ok-header.header c.in-Err.fault c.in_ok-header.ensures.asks.asks c.in_ok-header.ensures.header c.in-Err.ensures.asks.fault;
   calm = grind arith;
 }
 
 pub returns-in-Ok-clause-asks : goal.returns-in-Ok-clause-asks
-returns-in-Ok-clause-asks g c = grind (arith, common_steps, asks_on g.W.Outside g.met.W.Outside.fewer_later c.args.outside.now c.start.new.outside c.open.new.outside c.in_ok-header.ensures.asks.asks c.open.ensures.asks.asks)
+returns-in-Ok-clause-asks g c = record {
+  asks = asks_on g.W.Outside g.met.W.Outside.fewer_later c.args.outside.now c.start.new.outside c.open.new.outside c.in_ok-header.ensures.asks.asks c.open.ensures.asks.asks;
+  no_fault = grind (arith, common_steps);
+  fault = grind (arith, common_steps);
+  calm = grind (arith, common_steps);
+}
 
 pub returns-in-Ok-clause-opened : goal.returns-in-Ok-clause-opened
 returns-in-Ok-clause-opened g c = record {

@@ -7,7 +7,7 @@ loop-i-init g c =
     let held = held_of G c.args.outside.now in
     let header = c.self.inside.header in
     record {
-      asks = asks_one g.W.Outside c.args.outside.now c.read_at.new.self c.read_at.ensures.asks c.read_at.result c.read_at.ensures.counts;
+      asks = asks_one g.W.Outside c.args.outside.now c.read_at.new.self c.read_at.ensures.asks c.read_at.result c.read_at.ensures.counts c.read_at.ensures.deeds;
       no_fault = c.in_ok-read_at.ensures.counts.cause.done;
       len = c.read_at.auto.into ∙ c.requires.whole ∙ ap (λ (store : StoreView). page_bytes store.header.directory.page) (sym c.self.view_is) ∙ page-lines c.self.inside.header.directory.page;
       composed = λ told.

@@ -1,7 +1,8 @@
-use Rattle.store.proofs.Lemmas.{◌≡◌, ℕ, List, [], ap, subst, sym, IsSome, ◌∙◌, arith, Option, unwrap_or, total, HasHeader, held_of, IsChosen, ReopenFault, IsStoreReopenFault, StoreView, Fits, Shows, IsStoreWith, asks_on, sure_on, shows_read, reopening_fault, intact_fault, total_is, rules, common_steps, IfErr-weaker, on_ok_weaker}
+use Rattle.store.proofs.Lemmas.{◌≡◌, ℕ, List, [], ap, subst, sym, IsSome, ◌∙◌, arith, Option, unwrap_or, total, HasHeader, held_of, IsChosen, ReopenFault, IsStoreReopenFault, StoreView, Fits, Shows, IsStoreWith, sure_on, shows_read, reopening_fault, intact_fault, total_is, rules, common_steps, IfErr-weaker, on_ok_weaker}
 use Rattle.store.specs.Below.{chosen}
 use Rattle.store.specs.Opened.{IsBankReopenFault}
 use Rattle.store.specs.declared.open_fault.ReopenFault.TheVariants as reopening
+use Rattle.outside.proofs.Runs.{opened}
 use Rattle.store.proofs.restart.Durable.reopen.Goals as goal
 
 pub reopen-requires : goal.reopen-requires
@@ -18,7 +19,7 @@ returns-in-Ok g c =
     let held = held_of G old in
     let header = c.self.inside.header in
     let bank = c.reopen.new.self in
-    let asks = asks_on G g.met.W.Outside.fewer_later old c.synced.new.outside c.reopen.new.outside c.synced.ensures.asks c.reopen.ensures.asks.asks in
+    let asks = opened G g.met.W.Outside.fewer_later old c.synced.new.outside c.reopen.new.outside c.reopen.result c.in-Ok.ensures.asks c.reopen.ensures.asks.asks in
     let first : held_of G c.synced.new.outside ≡ held = ap (λ (those : Option (List ℕ)). unwrap_or those []) c.synced.ensures.asks.held in
     let still : IsSome (G.held old) → IsSome (G.held c.synced.new.outside) =
     subst (λ (those : Option (List ℕ)). IsSome those) (sym c.synced.ensures.asks.held) in
