@@ -64,8 +64,8 @@ pub struct StdFile<R: Files<File = File> + AllocGlobal> {
 }
 
 impl<R: Files<File = File> + AllocGlobal + Drop> StdFile<R> {
-    /// The file at this path, and its bytes. It is opened and locked, what was written into it is put on the disk, and then it is read from
-    /// there. Where there is none, and it is to be made, that comes with its first write. One that is looked at alone is read, and no more
+    /// The file at this path, and its bytes. It is opened and locked, what was written into it is put on the disk, and then it is
+    /// read. Where there is none, and it is to be made, that comes with its first write. One that is looked at alone is read, and no more
     /// locked.
     ///
     /// # Errors
@@ -146,18 +146,13 @@ impl Store {
         }
     }
 
-    // Puts on the disk what was written, and has memory forget it: what is read then is what the disk has. After a sync that failed memory
-    // keeps what the disk lacks, takes that for written, and tells it once.
+    // Puts on the disk what was written.
     fn settle(&self) -> io::Result<()> {
         self.sync_name()?;
         if self.may_be_new() {
-            self.file.sync_all()?;
+            self.file.sync_all()
         } else {
-            self.file.sync_data()?;
-        }
-        match libc::posix_fadvise(self.file.as_raw_fd(), 0, 0, libc::POSIX_FADV_DONTNEED) {
-            0 => Ok(()),
-            number => Err(io::Error::from_raw_os_error(number)),
+            self.file.sync_data()
         }
     }
 }
