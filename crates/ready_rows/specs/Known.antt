@@ -15,7 +15,7 @@ row_in tags rows address =
 
 -- the row that is known at an address
 unfoldable pub known : ReadyRows → (address : ℕ) → Option Ready
-known rows address = row_in rows.tags rows.rows address
+known rows address = row_in rows.tags.items rows.rows.items address
 
 -- no row is known
 abbrev pub KnowsNoRow : ReadyRows → Type 0

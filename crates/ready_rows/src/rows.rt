@@ -1,27 +1,32 @@
-ghost use Rattle.std.specs.Prelude.{◌≡◌, ℕ, ◌+◌, ◌≤◌, ◌<◌, length, option_map, slice_index};
+ghost use Rattle.std.specs.Prelude.{◌≡◌, ℕ, ◌+◌, ◌≤◌, ◌<◌, option_map, slice_index, vec_len, IfOk};
 ghost use Rattle.ready_rows.specs.Tags.{is_tag_met};
 
 use flat_machine::{Doing, Ready};
+use std::alloc::{AllocError, Global};
 
 /// Rows made ready, each at one of 512 places by its address. A place has the address and one for a tag, or 0 where it has
-/// no row. No tag is above the top. Both lists lie in the place itself, so that a look at one takes no pointer from memory.
+/// no row. No tag is above the top.
 #[derive(Drop)]
 pub struct ReadyRows {
-    tags: [u16; 512],
-    rows: [Ready; 512],
+    tags: Vec<u16>,
+    rows: Vec<Ready>,
     top: u32,
-    ghost tags_sized: { length tags ≡ 512 },
-    ghost rows_sized: { length rows ≡ 512 },
-    ghost below: { (place : ℕ) → slice_index tags place ≤ top },
+    ghost tags_sized: { vec_len tags ≡ 512 },
+    ghost rows_sized: { vec_len rows ≡ 512 },
+    ghost below: { (place : ℕ) → slice_index tags.items place ≤ top },
 }
 
 impl ReadyRows {
     ghost use Rattle.ready_rows.specs.Known.{known, KnowsNoRow, unless_met, with_row, with_place};
 
-    /// No row is known.
+    /// No row is known. It takes all memory that will be needed.
+    ///
+    /// # Errors
+    ///
+    /// There is no memory.
     #[tactic(auto, unfolding(crate::specs::Known::known))]
-    pub fn new() -> ReadyRows
-        ensures { KnowsNoRow result }
+    pub fn new(alloc: Global) -> Result<ReadyRows, AllocError>
+        ensures { IfOk result KnowsNoRow }
     {
         let none = Ready {
             doing: Doing::Stay,
@@ -30,11 +35,11 @@ impl ReadyRows {
             c: 0,
             i: 0,
         };
-        ReadyRows {
-            tags: [0; 512],
-            rows: [none; 512],
+        Ok(ReadyRows {
+            tags: vec![in alloc; 0; 512]?,
+            rows: vec![in alloc; none; 512]?,
             top: 0,
-        }
+        })
     }
 
     /// The row that is known at an address.
@@ -73,7 +78,7 @@ impl ReadyRows {
         if self.top == 0 {
             return;
         }
-        self.tags = [0; 512];
+        self.tags.fill(0);
         self.top = 0;
     }
 

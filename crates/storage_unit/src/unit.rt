@@ -72,7 +72,7 @@ impl Unit {
             directory,
             registers: SegmentRegs::none(page),
             runner: 0,
-            rows: ReadyRows::new(),
+            rows: ReadyRows::new(alloc)?,
             lines: OpenLines::new(),
             used: [0; 16],
         })

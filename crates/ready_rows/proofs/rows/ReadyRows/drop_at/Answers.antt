@@ -7,4 +7,4 @@ pub returns-then-low-self : goal.returns-then-low-self
 unfolding known
 returns-then-low-self c address =
     let rows = c.args.self.now in
-    above-top rows.tags rows.rows rows.top c.args.offset c.args.bytes address rows.below (omega arith)
+    above-top rows.tags.items rows.rows.items rows.top c.args.offset c.args.bytes address rows.below (omega arith)

@@ -23,7 +23,7 @@ invariant_of-result c =
           ∙ ap (λ (p : Pool). keys_of d (replicate 16 false) p.frames p.page_in) (sym pool);
       remembered = subst (λ (classes : List (List Pair)). IsOfTable classes c.in_ok-new-2.field-0.keys) (sym c.new-3.ensures) (none-of_table c.in_ok-new-2.field-0.keys);
       selected = record { none = λ is. c.none.ensures ∙ ap (λ page. (let none : Registers = record { page = page; list = replicate 16 None } in none)) c.page-page.ensures; few = omega arith; seat = λ seat is. absurd (omega (arith, is)) };
-      ready = ready-none c.new-4.result c.in_ok-new.field-0.bytes 0 c.new-4.ensures;
+      ready = ready-none c.in_ok-new-3.field-0 c.in_ok-new.field-0.bytes 0 c.in_ok-new-3.ensures;
       opened = opened-none c.new-5.result d c.in_ok-new-2.field-0 c.none.result 0 c.new-5.ensures;
       clear = subst (λ (list : List ℕ). AreClear (replicate 16 0) list) (sym (ap (λ (p : Pool). p.bytes) pool)) (clear-fresh _);
     }
