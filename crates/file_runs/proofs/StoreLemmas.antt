@@ -1,6 +1,7 @@
 -- From what the words on a store did on an outside to what they did on the file and the screen behind it.
 use Rattle.std.specs.Prelude.{Bool}
-use Rattle.file_runs.proofs.Common.{◌≡◌, ◌⊎◌, ℕ, ◌<◌, List, [], length, ap, sym, ◌∙◌, subst, IsSome, Torn, held_of, Ghosts, Given, call, Status, IsNoStore, IsStored, Written, WrittenBy, Deed, AreBehind, LeavesLast, inl, inr, ⊎_elim, stands, IsFaultAt, printed_of, arith, AreTold, Option, Some, IsSure, OnlyAsks, FlatStore, Standing, Stands, FromAnyStore}
+use Rattle.file_runs.proofs.Common.{◌≡◌, ◌⊎◌, ℕ, ◌<◌, List, [], length, ap, sym, ◌∙◌, subst, IsSome, Torn, held_of, Ghosts, Given, call, Status, IsNoStore, IsStored, Written, WrittenBy, Deed, AreBehind, LeavesLast, inl, inr, ⊎_elim, stands, IsFaultAt, printed_of, arith, AreTold, Option, Some, IsSure, FlatStore, Standing, Stands, FromAnyStore}
+use Rattle.outside.specs.Runs.{OnlyOpens}
 use Rattle.call_status.specs.declared.status.Status.TheVariants as status
 use Rattle.store_calls.specs.Renewed.{IsRenewed, Renewed}
 use Rattle.file_runs.specs.FileMade.{RenewedOnFile, WritesBy, WroteWidened, WrittenOnFile}
@@ -179,7 +180,7 @@ module _ {W : Type 0} (G : Ghosts W) (before after : W) (first : List ℕ) (deed
         let there : IsDueAt content (held_of G before) end = record { store = its.store; shows = its.shows; due_on = its.due_on } in
         subst (λ (bytes : List ℕ). IsDueAt content bytes end) same there
 
-    follows_by : (end : Status) → (IsUncommitted end → OnlyAsks G before after) → OnStore G content before after end → FollowsBy content first deeds puts end
+    follows_by : (end : Status) → (IsUncommitted end → OnlyOpens G before after) → OnStore G content before after end → FollowsBy content first deeds puts end
     follows_by status.Done refused did = (is_due status.Done did.0, follows_on status.Done did.1)
     follows_by status.PutFault refused did = (is_due status.PutFault did.0, follows_on status.PutFault did.1)
     follows_by status.DiskFault refused did =
