@@ -25,9 +25,48 @@ KINDS = {
     stat.S_IFBLK: "a device",
     stat.S_IFSOCK: "a socket",
 }
+LINKS = 40  # from one to the next, as the system follows them
 BESIDE = ".romp801-new"
 """What the name of a file ends with that isn't whole yet; it begins with a dot and the name of the file that it is to
 become."""
+
+
+def look(path: str, through: bool = True) -> Optional[os.stat_result]:
+    """What has this name, through a link or, with `through` false, the link itself; None where nothing has it. A
+    system that can't tell hasn't said that there is nothing: Failure."""
+    try:
+        return os.stat(path, follow_symlinks=through)
+    except (FileNotFoundError, NotADirectoryError):
+        return None
+    except OSError as error:
+        raise named(error, path) from error
+
+
+def is_there(path: str) -> bool:
+    """Whether something has this name, behind a link too."""
+    return look(path) is not None
+
+
+def is_file(path: str) -> bool:
+    """Whether a file has this name, which is no folder, pipe or device."""
+    found = look(path)
+    return found is not None and stat.S_ISREG(found.st_mode)
+
+
+def is_folder(path: str) -> bool:
+    """Whether a folder has this name."""
+    found = look(path)
+    return found is not None and stat.S_ISDIR(found.st_mode)
+
+
+def _behind_links(path: str) -> str:
+    """The name of what a name's links lead to, which needn't be there."""
+    for _ in range(LINKS):
+        found = look(path, through=False)
+        if found is None or not stat.S_ISLNK(found.st_mode):
+            return path
+        path = os.path.join(os.path.dirname(path), os.readlink(path))
+    raise OSError(errno.ELOOP, os.strerror(errno.ELOOP), path)
 
 
 class Wait:
@@ -131,10 +170,8 @@ def sound_store(path: str) -> Store:
 
 def has_name(file: int, path: str) -> bool:
     """Whether an open file is the one that has the name: another may have been put in its place meanwhile."""
-    try:
-        return os.path.samestat(os.fstat(file), os.stat(path))
-    except OSError:
-        return False
+    found = look(path)
+    return found is not None and os.path.samestat(os.fstat(file), found)
 
 
 def is_held(path: str, alone: bool = True) -> bool:
@@ -195,9 +232,9 @@ def hold_list(path: str) -> int:
             if has_name(file, path):
                 return file
             os.close(file)
+    except BlockingIOError as error:
+        raise Failure(f"another call works on a list of {path}") from error
     except OSError as error:
-        if error.errno in (errno.EAGAIN, errno.EACCES) and os.access(path, os.R_OK | os.W_OK):
-            raise Failure(f"another call works on a list of {path}") from error
         raise named(error, path) from error
 
 
@@ -220,7 +257,7 @@ def make_folder(path: str) -> None:
     """Makes a folder where there is none, with those that it is in, and syncs their names."""
     path = os.path.abspath(path)
     missing = []
-    while not os.path.isdir(path) and path not in missing:
+    while not is_folder(path) and path not in missing:
         missing.append(path)
         path = os.path.dirname(path)
     for name in reversed(missing):
@@ -252,8 +289,13 @@ def _open_beside(name: str, mode: int) -> int:
             file = os.open(name, os.O_CREAT | os.O_EXCL | os.O_WRONLY | os.O_CLOEXEC, mode)
             with contextlib.suppress(OSError):
                 fcntl.flock(file, fcntl.LOCK_EX | fcntl.LOCK_NB)
-            if has_name(file, name):
-                return file
+            try:
+                if has_name(file, name):
+                    return file
+            except (Failure, OSError):
+                with contextlib.suppress(OSError):
+                    os.remove(name)
+                raise
             os.close(file)
             continue
         with contextlib.suppress(FileNotFoundError):
@@ -273,10 +315,10 @@ def write_whole(path: str, data: bytes, like: Optional[str] = None) -> None:
     leaves the one or the other. Where it fails nothing is left beside it. The new file has the rights, and where it
     may the owner, of the file `like`.
     """
-    path = os.path.realpath(path)
-    folder, name = os.path.split(path)
-    beside = os.path.join(folder, f".{name}{BESIDE}")
     try:
+        path = _behind_links(path)
+        folder, name = os.path.split(path)
+        beside = os.path.join(folder, f".{name}{BESIDE}")
         file = _open_beside(beside, 0o600 if like else 0o666)
         try:
             write_all(file, data)
@@ -310,10 +352,8 @@ def remove(path: str) -> None:
 
 def same_file(one: str, other: str) -> bool:
     """Whether two names are those of one file that is there."""
-    try:
-        return os.path.samefile(one, other)
-    except OSError:
-        return False
+    first, second = look(one), look(other)
+    return first is not None and second is not None and os.path.samestat(first, second)
 
 
 @contextlib.contextmanager
@@ -341,7 +381,7 @@ def copy_of(data: bytes) -> Iterator[tuple[str, list[int]]]:
     """A store of these bytes for the program to run on: its name, and the open files that the program has to have."""
     with in_memory(data) as file:
         name = f"/proc/self/fd/{file}"
-        if os.path.exists(name):
+        if is_there(name):
             yield name, [file]
             return
     with tempfile.TemporaryDirectory(prefix="romp801-") as folder:

@@ -4,6 +4,7 @@ from __future__ import annotations
 import os
 import pathlib
 import shutil
+import stat
 import subprocess
 import sys
 from typing import Iterable, NamedTuple, Optional
@@ -19,6 +20,12 @@ OF_A_STORE = ("run", "show", "ship", "follow")
 LOOKS = ("show", "ship")
 BUSY = 5
 JOB, NOT_KEPT = 3, 12
+
+
+def _runs(path: str) -> bool:
+    """Whether a file has this name that is one to run."""
+    found = files.look(path)
+    return found is not None and stat.S_ISREG(found.st_mode) and found.st_mode & 0o111 != 0
 
 
 class Replay(NamedTuple):
@@ -40,12 +47,12 @@ class Program:
         proved or else unproved, else romp801 on PATH. Raises Failure where there is none."""
         named = named or os.environ.get("ROMP801")
         if named:
-            if not os.access(named, os.X_OK) or not os.path.isfile(named):
+            if not _runs(named):
                 raise Failure(f"there is no program {named}", WRONG_USE)
             return cls(os.path.abspath(named))
-        if os.access(PROVED, os.X_OK):
+        if _runs(str(PROVED)):
             return cls(str(PROVED))
-        if os.access(UNPROVED, os.X_OK):
+        if _runs(str(UNPROVED)):
             if sys.stderr is not None and sys.stderr.isatty():
                 print(f"{os.path.basename(sys.argv[0])}: the program is unproved", file=sys.stderr)
             return cls(str(UNPROVED))
@@ -147,18 +154,18 @@ def why_not(store: str, done: subprocess.CompletedProcess[bytes]) -> str:
     """Why a store doesn't open, as far as it can be seen: the one cause."""
     if done.returncode not in (2, BUSY):
         return ended(done.returncode, done.stderr)
-    if not os.path.exists(store):
+    if not files.is_there(store):
         return "there is no such file"
-    if not os.path.isfile(store):
+    if not files.is_file(store):
         return "it is no regular file"
-    if not os.access(store, os.R_OK):
-        return "there is no right to read it"
     if done.returncode == BUSY and files.is_held(store, alone=False):
         return "another process has it"
     try:
         files.read_store(store)
     except Fault as fault:
         return f"it is no store, or a damaged one, at byte {fault.offset}: {fault.why}"
+    except Failure as failure:
+        return str(failure)
     return ended(done.returncode, done.stderr)
 
 

@@ -1,13 +1,15 @@
 """Safe files: each step fails once, and the process ends at each step once."""
 from __future__ import annotations
 
+import errno
 import fcntl
+import itertools
 import os
 import tempfile
 import threading
 import time
 import unittest
-from typing import Any
+from typing import Any, Callable
 from unittest import mock
 
 from romp801 import Failure, files
@@ -93,6 +95,74 @@ class Whole(unittest.TestCase):
         self.assertEqual((files.read_bytes(self.path), os.stat(self.path).st_mode & 0o777), (b"new", 0o640))
 
 
+class Looks(unittest.TestCase):
+    """What is asked of a name."""
+
+    def setUp(self) -> None:
+        """A folder with a file."""
+        self.folder = tempfile.TemporaryDirectory()
+        self.addCleanup(self.folder.cleanup)
+        self.path = os.path.join(self.folder.name, "file")
+        files.write_whole(self.path, b"old")
+
+    def test_answers(self) -> None:
+        """A file, a folder, a link that leads nowhere, and nothing."""
+        link = self.path + ".link"
+        os.symlink("nosuch", link)
+        names = (self.path, self.folder.name, link, self.path + "/below", self.path + ".none")
+        asked = (files.is_there, files.is_file, files.is_folder)
+        self.assertEqual([[ask(it) for it in names] for ask in asked], [
+            [True, True, False, False, False], [True, False, False, False, False], [False, True, False, False, False]])
+        self.assertIsNotNone(files.look(link, through=False))
+        self.assertFalse(files.same_file(self.path, link))
+        self.assertTrue(files.same_file(self.path, self.path))
+
+    def test_links_without_an_end(self) -> None:
+        """A link to itself is no absent file."""
+        os.symlink("file.round", self.path + ".round")
+        with self.assertRaises(Failure):
+            files.is_there(self.path + ".round")
+        with self.assertRaises(Failure):
+            files.write_whole(self.path + ".round", b"new")
+
+    def test_no_answer(self) -> None:
+        """Where the system can't tell, nobody takes it for an answer, and what is there stays."""
+        number = os.open(self.path, os.O_RDONLY)
+        self.addCleanup(os.close, number)
+        asks: list[Callable[[], object]] = [
+            lambda: files.is_there(self.path),
+            lambda: files.is_file(self.path),
+            lambda: files.is_folder(self.path),
+            lambda: files.has_name(number, self.path),
+            lambda: files.same_file(self.path, self.path),
+            lambda: files.make_folder(self.path),
+            lambda: files.write_whole(self.path, b"new"),
+            lambda: files.hold_list(self.path),
+        ]
+        for ask in asks:
+            with mock.patch("os.stat", side_effect=OSError(errno.EIO, "it fails")), self.assertRaises(Failure):
+                ask()
+        self.assertEqual((files.read_bytes(self.path), os.listdir(self.folder.name)), (b"old", ["file"]))
+
+    def test_each_question_of_a_write(self) -> None:
+        """Each question that a write asks of a name fails in turn: a link stays one, and nothing is left beside it."""
+        os.symlink("file", self.path + ".link")
+        real = os.stat
+        for nth in range(1, 5):
+            answers = itertools.count(1)
+
+            def asked(*words: Any, **named: Any) -> Any:
+                """The call, which fails once."""
+                if next(answers) == nth:
+                    raise OSError(errno.EIO, "it fails")
+                return real(*words, **named)
+
+            with mock.patch("os.stat", asked), self.assertRaises(Failure):
+                files.write_whole(self.path + ".link", b"new", like=self.path)
+            self.assertEqual(files.read_bytes(self.path), b"old")
+            self.assertEqual(sorted(os.listdir(self.folder.name)), ["file", "file.link"])
+
+
 class Locks(unittest.TestCase):
     """locked, hold_list and open_store."""
 
@@ -160,7 +230,7 @@ class Copies(unittest.TestCase):
         choices: list[list[Any]] = [
             [],
             [mock.patch("os.memfd_create", side_effect=OSError(1, "no"))],
-            [mock.patch("os.path.exists", return_value=False)],
+            [mock.patch("romp801.files.is_there", return_value=False)],
         ]
         for patches in choices:
             for it in patches:
