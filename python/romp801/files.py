@@ -295,6 +295,7 @@ def _open_beside(name: str, mode: int) -> int:
             except (Failure, OSError):
                 with contextlib.suppress(OSError):
                     os.remove(name)
+                os.close(file)
                 raise
             os.close(file)
             continue
