@@ -160,7 +160,6 @@ pub put_handed : (puts puts' handed handed' : List Deed) (put : Deed) → puts' 
     → printed_of handed' ≡ printed_of handed ++ bytes_put put → printed_of puts' ≡ printed_of handed'
 put_handed puts puts' handed handed' put is same more = printed_more puts puts' put is ∙ ap (λ (those : List ℕ). those ++ bytes_put put) same ∙ sym more
 
-
 -- a call that was asked and failed
 pub cut_one : (deeds deeds' : List Deed) (deed : Deed) → deeds' ≡ deeds ++ broken deed ∷ [] → (result : Result (Unit {0}) Failed) → IsErr result → Carries (Some deeds) (Some deeds') (deed ∷ []) result
 cut_one deeds deeds' deed is (Ok done) fails = absurd (cc)

@@ -39,8 +39,8 @@ abbrev pub CommitsDeeds : (before after : Option (List Deed)) → (there bank : 
 CommitsDeeds before after there bank held kept =
     ((there ≡ bank) × KeepsRecord before after bank kept)
     ⊎ ((there ≡ bank_turned (other bank.which) bank)
-        × (((mid : Option (List Deed)) × Did before mid (checkpoint_deeds bank held) × KeepsRecord mid after there kept)
-            ⊎ ((kept ≡ Unwritten) × DidSome before after (checkpoint_deeds bank held))))
+    × (((mid : Option (List Deed)) × Did before mid (checkpoint_deeds bank held) × KeepsRecord mid after there kept)
+    ⊎ ((kept ≡ Unwritten) × DidSome before after (checkpoint_deeds bank held))))
 
 -- The same by the bytes of the store alone: what a commit asks that ends so.
 abbrev pub KeptAsks : Header → List ℕ → Kept → List Deed → Type 0

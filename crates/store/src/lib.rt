@@ -18,8 +18,8 @@ mod restart;
 mod selector;
 mod shown_law;
 
-pub use cost_law::a_record_costs_its_lines;
 pub use checkpoint::Banks;
+pub use cost_law::a_record_costs_its_lines;
 pub use find::Record;
 pub use keep::{Appended, Kept, write_once, write_sure};
 pub use newest_law::what_no_record_has_is_nowhere;

@@ -87,8 +87,8 @@ returns-in_err-write_head g c =
           let home = homes_written bank (held_of G c.args.outside.now) (length bank.newest) in
           let head = Wrote (bank_place (other bank.which) bank.bank_bytes) (head_bytes (bank_number bank)) in
           let it =
-              some_on (G.deeds c.args.outside.now) (G.deeds c.write_home.new.outside) (G.deeds c.write_head.new.outside) home (turn_written bank) (c.in_ok-write_home.ensures.deeds tracks)
-              (some_more (G.deeds c.write_home.new.outside) (G.deeds c.write_head.new.outside) (head ∷ []) (Synced ∷ sure_deeds 128 (selector_of (other bank.which) ∷ [])) (head_deeds g at cut c.in_err-write_head.ensures.deeds)) in
+          some_on (G.deeds c.args.outside.now) (G.deeds c.write_home.new.outside) (G.deeds c.write_head.new.outside) home (turn_written bank) (c.in_ok-write_home.ensures.deeds tracks)
+          (some_more (G.deeds c.write_home.new.outside) (G.deeds c.write_head.new.outside) (head ∷ []) (Synced ∷ sure_deeds 128 (selector_of (other bank.which) ∷ [])) (head_deeds g at cut c.in_err-write_head.ensures.deeds)) in
           carries_err _ _ _ _ (grind (arith, common_steps)) it;
     }
 
@@ -107,9 +107,9 @@ returns-in_err-sync g c =
           let home = homes_written bank (held_of G c.args.outside.now) (length bank.newest) in
           let head = Wrote (bank_place (other bank.which) bank.bank_bytes) (head_bytes (bank_number bank)) in
           let it =
-              some_on (G.deeds c.args.outside.now) (G.deeds c.write_home.new.outside) (G.deeds c.sync.new.self) home (turn_written bank) (c.in_ok-write_home.ensures.deeds tracks)
-              (some_on (G.deeds c.write_home.new.outside) (G.deeds c.write_head.new.outside) (G.deeds c.sync.new.self) (head ∷ []) (Synced ∷ sure_deeds 128 (selector_of (other bank.which) ∷ [])) (head_deeds g at.After-write_head whole c.in_ok-write_head.ensures.deeds)
-              (some_more (G.deeds c.write_head.new.outside) (G.deeds c.sync.new.self) (Synced ∷ []) (sure_deeds 128 (selector_of (other bank.which) ∷ [])) c.in_err-sync.ensures.deeds)) in
+          some_on (G.deeds c.args.outside.now) (G.deeds c.write_home.new.outside) (G.deeds c.sync.new.self) home (turn_written bank) (c.in_ok-write_home.ensures.deeds tracks)
+          (some_on (G.deeds c.write_home.new.outside) (G.deeds c.write_head.new.outside) (G.deeds c.sync.new.self) (head ∷ []) (Synced ∷ sure_deeds 128 (selector_of (other bank.which) ∷ [])) (head_deeds g at.After-write_head whole c.in_ok-write_head.ensures.deeds)
+          (some_more (G.deeds c.write_head.new.outside) (G.deeds c.sync.new.self) (Synced ∷ []) (sure_deeds 128 (selector_of (other bank.which) ∷ [])) c.in_err-sync.ensures.deeds)) in
           carries_err _ _ _ _ (grind (arith, common_steps)) it;
     }
 

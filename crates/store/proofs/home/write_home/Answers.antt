@@ -39,7 +39,7 @@ one_more_home g c tracks result copied =
     let line = c.loop-line.line in
     let below : line < line_count tracks.header.directory = omega (arith, tracks.bound, c.loop-line-test.true, c.lines-line-end.ensures) in
     let same = copies_same tracks.header bank.which bank.base bank.gate tracks.records held tracks.store (held_of G c.loop-line.outside) (c.loop-line.invariant.homed tracks).covered line (get_or bank.newest line None) (sym (tracks.newest line (omega (arith, tracks.bound, below)))) (line_bytes_of bank) (home_place bank line)
-        (ap (λ (page : PageSize). line_bytes page) (sym tracks.page)) in
+    (ap (λ (page : PageSize). line_bytes page) (sym tracks.page)) in
     carries_on (G.deeds c.args.outside.now) (G.deeds c.loop-line.outside) (G.deeds c.copy_newest.new.outside) (homes_written bank held line) (copy_deeds (line_bytes_of bank) held (get_or bank.newest line None) (home_place bank line)) result
     (c.loop-line.invariant.deeds tracks)
     (subst (λ (plan : List Deed). Carries (G.deeds c.loop-line.outside) (G.deeds c.copy_newest.new.outside) plan result) same copied)
