@@ -1,10 +1,15 @@
 -- What the words on a file need to end well: what `HasAll` says of an outside, of the bytes that the file gave.
-use Rattle.std.specs.Prelude.{◌≡◌, ◌≤◌, ℕ, List, [], length, All, Option, Some}
+use Rattle.std.specs.Prelude.{◌≡◌, ◌≤◌, ◌⊎◌, ℕ, List, [], length, All, Option, Some}
+use Rattle.call_status.specs.Call.{Given}
 use Rattle.call_status.specs.Opening.{IsStanding}
+use Rattle.call_status.specs.declared.status.Status.{Status}
+use Rattle.call_status.specs.declared.status.Status.TheVariants as status
 use Rattle.console.specs.Causes.{HasJob, HasOldStore}
 use Rattle.console.specs.declared.command_words.Command.{Command}
 use Rattle.console.specs.declared.command_words.Command.TheVariants as command
 use Rattle.lines.specs.FlatStore.{FlatStore}
+use Rattle.outside.specs.Causes.{Rose}
+use Rattle.outside.specs.declared.world.Outside.{Ghosts}
 use Rattle.standby.specs.Followed.{IsAlike}
 use Rattle.standby.specs.State.{IsTextNumber, behind, due}
 use Rattle.standby.specs.Text.{ShipContent, IsContent, ship_text}
@@ -44,3 +49,16 @@ HasAllOnFile (command.Renew bank) left first = HasOldStore left × (first ≡ []
 HasAllOnFile (command.Ship from) left first = KeepsBehind from first
 HasAllOnFile command.Follow left first = MayFollow left first
 HasAllOnFile _ left first = ⊥
+
+-- it ended well, but for want of memory
+abbrev pub EndsWell : Status → Type 0
+EndsWell end = (end ≡ status.Done) ⊎ (end ≡ status.NoMemory)
+
+-- no read of the source failed in the call
+abbrev pub ReadsCalmly : Given → Type 0
+ReadsCalmly given = ¬ (Rose given.faults given.faults_now)
+
+-- so it ended where no read of the source failed, and no call of the outside
+abbrev pub EndsWellUnfailed : {W : Type 0} → Ghosts W → Given → (before after : W) → Status → Type 0
+EndsWellUnfailed G given before after end =
+    ReadsCalmly given → (¬ (Rose (G.disk_faults before) (G.disk_faults after))) → (¬ (Rose (G.put_faults before) (G.put_faults after))) → EndsWell end

@@ -1,9 +1,8 @@
 // The console on a file and a screen.
-ghost use Rattle.std.specs.Prelude.{◌≡◌, ◌≢◌, ◌↔◌, ◌⊎◌, [], List, ℕ, Bool, count_by, true, IsTrue, Some};
+ghost use Rattle.std.specs.Prelude.{◌≡◌, ◌≢◌, ◌↔◌, [], List, ℕ, Bool, count_by, true, IsTrue, Some};
 ghost use Rattle.call_status.specs.declared.status.Status.{Status};
 ghost use Rattle.console.specs.Causes.{IsOfCommand};
-ghost use Rattle.outside.specs.Causes.{Rose};
-ghost use Rattle.file_runs.specs.FileNeeds.{HasAllOnFile};
+ghost use Rattle.file_runs.specs.FileNeeds.{EndsWell, EndsWellUnfailed, HasAllOnFile, ReadsCalmly};
 ghost use Rattle.console.specs.Below.{ReadFaultsBy, ReadsBy};
 ghost use Rattle.real_files.specs.Deeds.{deed_failed};
 ghost use Rattle.file_runs.specs.Below.{Command, Deed, given, StopsAtFailure};
@@ -27,7 +26,8 @@ fn console_behind<S: Source, W: Outside>(
     ensures usage { result.status ≡ Status.Usage ↔ IsNoForm words.now }
     ensures only { (form : Command) → IsForm form words.now → IsOfCommand form result.status }
     ensures read { ReadsJob words.now → ReadsBy (given S.Source job.old job.new) result.status }
-    ensures complete { (form : Command) → IsForm form words.now → (first : List ℕ) → IsTrue (W.is_honest outside.old) → W.held outside.old ≡ Some first → HasAllOnFile form (given S.Source job.old job.new).left first → (¬ (Rose (given S.Source job.old job.new).faults (given S.Source job.old job.new).faults_now)) → (¬ (Rose (W.disk_faults outside.old) (W.disk_faults outside.new))) → (¬ (Rose (W.put_faults outside.old) (W.put_faults outside.new))) → (result.status ≡ Status.Done) ⊎ (result.status ≡ Status.NoMemory) }
+    ensures complete { (form : Command) → IsForm form words.now → (first : List ℕ) → IsTrue (W.is_honest outside.old) → W.held outside.old ≡ Some first → HasAllOnFile form (given S.Source job.old job.new).left first
+        → EndsWellUnfailed W.Outside (given S.Source job.old job.new) outside.old outside.new result.status }
     ensures faults { ReadFaultsBy W.Outside (given S.Source job.old job.new) outside.old outside.new result.status }
     ensures same { (form : Command) → IsForm form words.now → IsOnFile form → (W.moment outside.new).origin ≡ (W.moment outside.old).origin }
     ensures did { (form : Command) → IsForm form words.now → (first : List ℕ) (deeds puts : List Deed) (starved : Bool) → AreBehind W.Outside outside.old outside.new first deeds puts starved → DidOnFile starved form (given S.Source job.old job.new) first deeds puts result }
@@ -59,7 +59,8 @@ pub fn console_on_file<S: Source, F: RawFile, R: RawScreen>(
     ensures put { count_by deed_failed (R.puts result.2) ≡ 0 → result.0.status ≢ Status.PutFault }
 
     // With what the words need, no call that fails, and memory, it ends well.
-    ensures complete { (form : Command) → IsForm form words.now → HasAllOnFile form (given S.Source job.old job.new).left bytes.items → (¬ (Rose (given S.Source job.old job.new).faults (given S.Source job.old job.new).faults_now)) → IsCalm (F.deeds result.1) result.3 → count_by deed_failed (R.puts result.2) ≡ 0 → (result.0.status ≡ Status.Done) ⊎ (result.0.status ≡ Status.NoMemory) }
+    ensures complete { (form : Command) → IsForm form words.now → HasAllOnFile form (given S.Source job.old job.new).left bytes.items
+        → ReadsCalmly (given S.Source job.old job.new) → IsCalm (F.deeds result.1) result.3 → count_by deed_failed (R.puts result.2) ≡ 0 → EndsWell result.0.status }
     ensures same { (form : Command) → IsForm form words.now → IsOnFile form → F.first result.1 ≡ bytes.items }
     ensures stops { StopsAtFailure (F.deeds result.1) }
     ensures did { (form : Command) → IsForm form words.now → IsOnFile form → DidOnFile result.3 form (given S.Source job.old job.new) bytes.items (F.deeds result.1) (R.puts result.2) result.0 }
