@@ -1,11 +1,21 @@
 -- A session that has just opened.
 use Rattle.session.proofs.Common.{◌≡◌, ℕ, ◌+◌, ◌^◌, List, [], length, take, sym, ◌∙◌, ap, arith, Option, false, unwrap_or, byte_count, Ghosts, OnlyAsks, held_of, header_of, most_lines, Stands, stands, StoreView, store_number, Shows, TracksStore, order_told, opened, desk_over, Begins, SessionState, activity, session_desk}
+use Rattle.activations.specs.Activity.{Activity}
+use Rattle.activations.specs.Begins.{idle}
 use Rattle.activations.specs.Follows.{HasFrames}
+use Rattle.activations.specs.declared.live.Live.{Live}
+use Rattle.flat_machine.specs.declared.machine.Program.{Program}
+use Rattle.lines.specs.Directory.{Layout}
 use Rattle.outside.specs.Deeds.{Deed}
 use Rattle.outside.specs.Runs.{AsksSo}
 use Rattle.std.proofs.Math.Nat.{mod-mod}
 use Rattle.store.proofs.StoodLemmas.{committed_in, committed-long, stood-store}
+use Rattle.seats.specs.Seating.{newcomer, sitter}
+use Rattle.std.proofs.Common.{replicate}
+use Rattle.std.proofs.lemmas.List.{get_or-replicate}
+use Rattle.std.specs.Prelude.{vec_capacity, vec_len}
 use Rattle.session.specs.Opened.{HasStood, IsSessionOpened}
+use Rattle.session.specs.Session.{HaveRoom}
 
 pub has-stood : (held : List ℕ) (store : StoreView) → Shows held store → HasStood store.header held
 has-stood held store shows = grind (arith, shows.header.said, committed_in held store shows, stood-store held store shows)
@@ -52,3 +62,22 @@ module _ (frames : ℕ) (s : SessionState) (made : IsMade frames s) where
           is = made-desk committed long;
         };
       }
+
+-- where nobody runs yet and nothing was committed, there is room for the begins that were asked for
+pub made-room : (s : SessionState) (programs : List Program) (most frames : ℕ) (directory : Layout) (live : List Live) → activity s ≡ idle programs most frames directory live → s.turns ≡ 0 → s.begins + 1 < 2 ^ 32
+    → vec_len s.order ≡ 0 → s.begins ≤ vec_capacity s.order → HaveRoom s
+made-room s programs most frames directory live nobody turns few none room =
+    let first : (activity s).next ≡ 1 = ap (λ (a : Activity). a.next) nobody in
+    let empty : length (activity s).seating.taken ≡ 0 = ap (λ (a : Activity). length a.seating.taken) nobody in
+    record {
+      begun = omega (arith, first);
+      begin_numbers = few;
+      turned = omega (arith, turns);
+      rows = λ seat below.
+          let sits = ap (λ (a : Activity). (sitter a.seating seat).rows) nobody in
+          let nothing = ap (λ those. those.rows) (get_or-replicate 16 seat (newcomer 0 0 (replicate 4 0)) (newcomer 0 0 []) below) in
+          omega (arith, sits, nothing);
+      places = λ still. omega (arith, first, empty, none);
+      order = room;
+      commits = omega (arith, none);
+    }

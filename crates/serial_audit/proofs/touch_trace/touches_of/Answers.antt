@@ -1,5 +1,8 @@
 use Rattle.serial_audit.proofs.Common.{◌≡◌, rules, line_claim, activation_in}
-use Rattle.serial_audit.proofs.VerdictLemmas.{refused, traced_sound}
+use Rattle.std.proofs.Common.{arith, ap, sym, ◌∙◌}
+use Rattle.std.proofs.lemmas.Grind.{common_steps}
+use Rattle.flat_machine.specs.declared.machine.Plain.{Plain}
+use Rattle.serial_audit.proofs.VerdictLemmas.{refused, same_activation, traced_sound}
 use Rattle.serial_audit.proofs.touch_trace.touches_of.Goals as goal
 
 pub returns-then-eq : goal.returns-then-eq
@@ -13,3 +16,14 @@ pub returns-in-None : goal.returns-in-None
 returns-in-None c = λ job opening before same stands sound.
     let wants = refused job opening before (line_claim c.args.commit.now) c.args.progress c.args.directory.now same stands sound in
     c.in-None.ensures job opening before stands wants.0 wants.1
+
+pub returns-in-Some-2 : goal.returns-in-Some-2
+returns-in-Some-2 c = λ job opening before same stands sound.
+    let told = line_claim c.args.commit.now in
+    let wants = refused job opening before told c.args.progress c.args.directory.now same stands sound in
+    let one : activation_in c.in-Some.entry ≡ wants.0 = same_activation job opening before told (activation_in c.in-Some.entry) wants.0 (c.in-Some.ensures job opening before stands).0 wants.1 in
+    let traced = rw c.in-Some-2.is at c.in_ok-state.ensures in
+    let commits = wants.2.1.commits in
+    let state : c.in-Some-2.state ≡ wants.2.1.state = cc (traced.0, one, commits) in
+    let prints : c.args.commit.now.out.items ≡ c.in-Some-2.state.out = wants.2.1.prints ∙ ap (λ (plain : Plain). plain.out) (sym state) in
+    grind (arith, common_steps, prints)

@@ -1,5 +1,6 @@
 use Rattle.session.proofs.Common.{rules, held_of, byte_count, FlatStore, Header, most_lines, opened, Activity, Begins, activity, SessionState, length, false, ◌≡◌, refl, sym, ◌∙◌, ap, subst}
-use Rattle.session.proofs.OpeningLemmas.{IsMade, made-opened, has-stood}
+use Rattle.std.specs.Prelude.{vec_len}
+use Rattle.session.proofs.OpeningLemmas.{IsMade, made-opened, made-room, has-stood}
 use Rattle.std.proofs.Common.{[], ◌∷◌, arith}
 use Rattle.std.proofs.lemmas.Grind.{common_steps}
 use Rattle.outside.proofs.DeedLemmas.{carries_err}
@@ -60,7 +61,10 @@ invariant_of-result g c = record {
   running = c.sound.ensures;
   directory = (is-made g c).directory;
   most = search rules;
-  room = search rules;
+  room =
+      let s = made_session g c in
+      let empty : vec_len s.order ≡ 0 = omega (arith, s.order.ok.0, ap length c.in_ok-order.ensures.items) in
+      made-room s _ _ _ _ _ c.in_ok-activations.ensures.idle refl (omega (arith, c.requires.begins)) empty (first_of (search rules, grind (arith, common_steps)));
   usable = λ still. c.in_ok-store.ensures.opened.usable;
 }
 
@@ -81,3 +85,6 @@ returns-in_err-activations-clause-asks g c =
     let G = g.W.Outside in let old = c.args.outside.now in let new = c.open.new.outside in
     let asks = opens_some G old new c.open.result c.open.ensures.asks.asks in
     asks_as G old new asks (carries_err (G.deeds old) (G.deeds new) (Synced ∷ []) c.from_residual-in_err-activations.result (grind (arith, common_steps)) asks.deeds)
+
+pub returns-clause-asks : goal.returns-clause-asks
+returns-clause-asks g c = c.in_ok-store.ensures.asks.asks
