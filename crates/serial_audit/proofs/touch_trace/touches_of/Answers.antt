@@ -1,6 +1,7 @@
 use Rattle.serial_audit.proofs.Common.{◌≡◌, rules, line_claim, activation_in}
-use Rattle.std.proofs.Common.{arith, ap, sym, ◌∙◌}
-use Rattle.std.proofs.lemmas.Grind.{common_steps}
+use Rattle.std.proofs.Common.{ap, sym, ◌∙◌}
+use Rattle.std.specs.Prelude.{true, false}
+use Rattle.serial_audit.proofs.Lemmas.{Decides-eqb, slice_eq-Decides}
 use Rattle.flat_machine.specs.declared.machine.Plain.{Plain}
 use Rattle.serial_audit.proofs.VerdictLemmas.{refused, same_activation, traced_sound}
 use Rattle.serial_audit.proofs.touch_trace.touches_of.Goals as goal
@@ -26,4 +27,6 @@ returns-in-Some-2 c = λ job opening before same stands sound.
     let commits = wants.2.1.commits in
     let state : c.in-Some-2.state ≡ wants.2.1.state = cc (traced.0, one, commits) in
     let prints : c.args.commit.now.out.items ≡ c.in-Some-2.state.out = wants.2.1.prints ∙ ap (λ (plain : Plain). plain.out) (sym state) in
-    grind (arith, common_steps, prints)
+    let decides = slice_eq-Decides Decides-eqb c.as_slice.result.now c.as_slice-in-Some-2.result.now c.eq.result c.eq.ensures in
+    let met : c.eq.result ≡ true = decides.1 (c.as_slice.ensures.value ∙ sym prints ∙ sym c.as_slice-in-Some-2.ensures.value) in
+    absurd (let no : true ≡ false = sym met ∙ c.if-eq.false in cc)
