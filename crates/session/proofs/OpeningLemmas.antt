@@ -11,7 +11,7 @@ use Rattle.outside.specs.Runs.{AsksSo}
 use Rattle.std.proofs.Math.Nat.{mod-mod}
 use Rattle.store.proofs.StoodLemmas.{committed_in, committed-long, stood-store}
 use Rattle.seats.specs.Seating.{newcomer, sitter}
-use Rattle.std.proofs.Common.{replicate, ◌<◌}
+use Rattle.std.proofs.Common.{replicate, ◌<◌, ◌≤◌}
 use Rattle.std.proofs.lemmas.List.{get_or-replicate}
 use Rattle.std.specs.Prelude.{vec_capacity, vec_len}
 use Rattle.session.specs.Opened.{HasStood, IsSessionOpened}
