@@ -11,6 +11,7 @@ use Rattle.outside.specs.Runs.{AsksSo}
 use Rattle.std.proofs.Math.Nat.{mod-mod}
 use Rattle.store.proofs.StoodLemmas.{committed_in, committed-long, stood-store}
 use Rattle.seats.specs.Seating.{newcomer, sitter}
+use Rattle.seats.specs.declared.seat.Seat.{Seat}
 use Rattle.std.proofs.Common.{replicate, ◌<◌, ◌≤◌}
 use Rattle.std.proofs.lemmas.List.{get_or-replicate}
 use Rattle.std.specs.Prelude.{vec_capacity, vec_len}
@@ -75,7 +76,7 @@ made-room s programs most frames directory live nobody turns few none room =
       turned = omega (arith, turns);
       rows = λ seat below.
           let sits = ap (λ (a : Activity). (sitter a.seating seat).rows) nobody in
-          let nothing = ap (λ those. those.rows) (get_or-replicate 16 seat (newcomer 0 0 (replicate 4 0)) (newcomer 0 0 []) below) in
+          let nothing = ap (λ (those : Seat). those.rows) (get_or-replicate 16 seat (newcomer 0 0 (replicate 4 0)) (newcomer 0 0 []) below) in
           omega (arith, sits, nothing);
       places = λ still. omega (arith, first, empty, none);
       order = room;
