@@ -20,6 +20,7 @@ class Place:
         self.program, self.launcher, self.folder, self.found = program, launcher, folder, found
         self.order = order       # what is left to chance
         self.what = ""
+        self.numbers: Dict[bytes, Optional[int]] = {}
 
     def file(self, name: str) -> str:
         """A file of the run."""
@@ -30,8 +31,14 @@ class Place:
         self.found.expect(holds, f"{self.what}: {what}")
 
     def whole(self, name: str) -> Optional[int]:
-        """The number of a whole store; None of what is none, or isn't there."""
-        return rig.whole(self.program, self.file(name)) if os.path.exists(self.file(name)) else None
+        """The number of a whole store; None of what is none, or isn't there. The program is asked once of the same
+        bytes."""
+        if not os.path.exists(self.file(name)):
+            return None
+        data = self.data(name)
+        if data not in self.numbers:
+            self.numbers[data] = rig.whole(self.program, self.file(name))
+        return self.numbers[data]
 
     def data(self, name: str) -> bytes:
         """What a file has."""
@@ -66,6 +73,8 @@ class Subject:
     is_writing = True
     calls: Sequence[str] = ()    # words with which it calls the program on the run's files
     goes_on = False              # whether it may be called again until it ends well
+    is_same = True               # whether it finds the same files each time
+    is_script = True             # whether it is a script of tools/
 
     def prepare(self, it: Place) -> None:
         """Makes the files that it finds."""
@@ -167,7 +176,7 @@ class WorkOn(Work):
 
 class WorkLong(Work):
     """A long list with such as give up, with a standby and each job kept, by chance; for kills alone."""
-    name, good = "work, a long list", (0, 1)
+    name, good, is_same = "work, a long list", (0, 1), False
     gives_up = "program no\n.window 1, 1, rw\ncau r6, r0, 0x1000\nst r3, 0(r6)\nsvc 2\nend\n"
 
     def prepare(self, it: Place) -> None:
@@ -276,7 +285,10 @@ class Backup(Subject):
 
 class Restore(Subject):
     """A copy in the place of a store, which is kept."""
-    name = "restore"
+    name, goes_on = "restore", True
+
+    def __init__(self) -> None:
+        self.keeps = 0
 
     def prepare(self, it: Place) -> None:
         it.new("store", 1)
@@ -284,25 +296,29 @@ class Restore(Subject):
         rig.call([it.program, "run", it.file("store")], rig.adds(2))
 
     def words(self, it: Place) -> List[str]:
-        return tool("restore", it.file("copy"), it.file("store"), "--keep", it.file("kept"))
+        # (what is replaced once more is kept under another name)
+        self.keeps += it.whole("store") == 1
+        return tool("restore", it.file("copy"), it.file("store"), "--keep", it.file(f"kept.{self.keeps}"))
 
     def behind(self, it: Place, done: rig.Done) -> None:
-        store, kept = it.whole("store"), it.whole("kept")
+        store, kept = it.whole("store"), [it.whole(f"kept.{place}") for place in range(self.keeps + 1)]
         it.expect(it.whole("copy") == 1 and store in (1, 3), f"the store has {store}, the copy {it.whole('copy')}")
-        it.expect(store == 3 or kept == 3, f"the store has {store}, and what is kept of it {kept}")
-        if os.path.exists(it.file("kept")):
-            it.expect(kept == 3 and not os.path.samefile(it.file("kept"), it.file("store")),
-                      f"what is kept has {kept}, or is the store")
+        it.expect(store == 3 or kept[0] == 3, f"the store has {store}, and what is kept of it {kept}")
+        for place, number in enumerate(kept):
+            name = it.file(f"kept.{place}")
+            if os.path.exists(name):
+                it.expect(number == (1 if place else 3) and not os.path.samefile(name, it.file("store")),
+                          f"what is kept has {kept}, or is the store")
 
     def again(self, it: Place) -> None:
-        done = rig.call([*self.words(it)[:-1], it.file("kept.again")], environment={"ROMP801": it.program})
+        done = rig.call(self.words(it), environment={"ROMP801": it.program})
         it.expect(done.status == 0 and it.whole("store") == 1,
                   f"called again: {done.told()}, the store has {it.whole('store')}")
 
 
 class Reading(Subject):
     """What only reads: it answers as ever or fails, and changes nothing."""
-    is_writing = False
+    is_writing, goes_on = False, True
     wanted = ""
 
     def prepare(self, it: Place) -> None:
@@ -368,7 +384,7 @@ class Addresses(Reading):
 
 class Word(Subject):
     """One of the launcher's words."""
-    bad = (2, 4, 5, 6, 7, 126)
+    bad, is_script = (2, 4, 5, 6, 7, 126), False
 
     def launch(self, it: Place, *words: str) -> List[str]:
         """The launcher with these words."""
@@ -377,20 +393,25 @@ class Word(Subject):
 
 class Run(Word):
     """A job: what was told is kept, and at most one commit more."""
-    name, source = "run", rig.adds(3)
+    name, source, goes_on = "run", rig.adds(3), True
+
+    def __init__(self) -> None:
+        self.had = 0
 
     def prepare(self, it: Place) -> None:
         it.new("store", 2)
 
     def words(self, it: Place) -> List[str]:
+        self.had = it.whole("store") or 0
         return self.launch(it, "run", it.file("store"))
 
     def behind(self, it: Place, done: rig.Done) -> None:
-        told = 2 + done.out.count("\ncommit ")
+        told = self.had + done.out.count("\ncommit ")
         number = it.whole("store")
         it.expect(number is not None and told <= number <= told + (done.status != 0),
                   f"told up to {told}, the store has {number}")
-        it.expect(done.status != 0 or number == 5 or "disk" in done.out, f"it ended well, and the store has {number}")
+        it.expect(done.status != 0 or number == self.had + 3 or "disk" in done.out,
+                  f"it ended well, and the store has {number}, which had {self.had}")
 
     def again(self, it: Place) -> None:
         number = it.whole("store")
@@ -401,7 +422,10 @@ class Run(Word):
 
 class Follow(Word):
     """A ship text: what was told is kept, and the same text goes on."""
-    name = "follow"
+    name, goes_on = "follow", True
+
+    def __init__(self) -> None:
+        self.had = 0
 
     def prepare(self, it: Place) -> None:
         it.new("store", 1)
@@ -410,10 +434,11 @@ class Follow(Word):
         self.source = rig.call([it.program, "ship", it.file("other"), "0"]).out.encode()
 
     def words(self, it: Place) -> List[str]:
+        self.had = it.whole("store") or 0
         return self.launch(it, "follow", it.file("store"))
 
     def behind(self, it: Place, done: rig.Done) -> None:
-        told = max([1, *map(int, re.findall(r"kept (\d+)", done.out))])
+        told = max([self.had, *map(int, re.findall(r"kept (\d+)", done.out))])
         number = it.whole("store")
         it.expect(number is not None and told <= number <= told + (done.status != 0),
                   f"told {told}, the store has {number}")
@@ -426,7 +451,7 @@ class Follow(Word):
 
 class Looking(Word):
     """What prints of a store and changes nothing: all of it where it ends well, else a front part."""
-    is_writing = False
+    is_writing, goes_on = False, True
     tail: Sequence[str] = ()
 
     def prepare(self, it: Place) -> None:
