@@ -1,4 +1,4 @@
-# Completion for bash: `source tools/romp801.bash`. Words are those of docs/FORMATS.md, "Words"; behind them come names of files.
+# Completion for bash: `source tools/romp801.bash`. It is made by checks/manuals.
 
 _romp801() {
     local words='try run list drill big audit trace show new new2 renew ship follow'
@@ -27,3 +27,86 @@ _romp801() {
     fi
 }
 complete -o filenames -F _romp801 romp801 ./romp801
+
+# a script: its options, no names after an option whose value is none, and else names of files
+_romp801_script() {
+    local word=${COMP_WORDS[COMP_CWORD]} before=${COMP_WORDS[COMP_CWORD - 1]} options='' values=''
+    COMPREPLY=()
+    case ${COMP_WORDS[0]##*/} in
+    addresses | romp801-addresses)
+        options='--help --program'
+        values=''
+        ;;
+    after-kill | romp801-after-kill)
+        options='--help --wait --program'
+        values='--wait'
+        ;;
+    audit | romp801-audit)
+        options='--help --json --program'
+        values=''
+        ;;
+    backup | romp801-backup)
+        options='--help --no-wait --wait'
+        values='--wait'
+        ;;
+    catch-up | romp801-catch-up)
+        options='--help --copy --wait --program'
+        values='--wait'
+        ;;
+    ends | romp801-ends)
+        options='--help --quiet --json'
+        values=''
+        ;;
+    move | romp801-move)
+        options='--help --wait --program'
+        values='--wait'
+        ;;
+    restore | romp801-restore)
+        options='--help --keep --wait'
+        values='--wait'
+        ;;
+    stat | romp801-stat)
+        options='--help --number --json'
+        values=''
+        ;;
+    work | romp801-work)
+        options='--help --in-order --new --after --checkpoint --keep --folder --ended --go-on --json --wait --program'
+        values='--after --wait'
+        ;;
+    esac
+    case " $values " in *" $before "*) return ;; esac
+    case $word in
+    -*) mapfile -t COMPREPLY < <(compgen -W "$options" -- "$word") ;;
+    *) mapfile -t COMPREPLY < <(compgen -f -- "$word") ;;
+    esac
+}
+complete -o filenames -F _romp801_script romp801-addresses \
+    tools/addresses \
+    ./tools/addresses \
+    romp801-after-kill \
+    tools/after-kill \
+    ./tools/after-kill \
+    romp801-audit \
+    tools/audit \
+    ./tools/audit \
+    romp801-backup \
+    tools/backup \
+    ./tools/backup \
+    romp801-catch-up \
+    tools/catch-up \
+    ./tools/catch-up \
+    romp801-ends \
+    tools/ends \
+    ./tools/ends \
+    romp801-move \
+    tools/move \
+    ./tools/move \
+    romp801-restore \
+    tools/restore \
+    ./tools/restore \
+    romp801-stat \
+    tools/stat \
+    ./tools/stat \
+    romp801-work \
+    tools/work \
+    ./tools/work

@@ -16,6 +16,7 @@ from romp801.format import Fault
 TOP = pathlib.Path(__file__).resolve().parent.parent.parent
 PROVED = TOP / "crates/romp801/out/romp801"
 UNPROVED = TOP / "out/unproved/romp801"
+INSTALLED = TOP / "program"
 OF_A_STORE = ("run", "show", "ship", "follow")
 LOOKS = ("show", "ship")
 BUSY = 5
@@ -43,15 +44,16 @@ class Program:
 
     @classmethod
     def find(cls, named: Optional[str] = None) -> Program:
-        """The one that is named, else that of the variable ROMP801, else the one that was built in this repository,
-        proved or else unproved, else romp801 on PATH. Raises Failure where there is none."""
+        """The one that is named, else that of the variable ROMP801, else the one that was installed or built beside
+        this package, proved or else unproved, else romp801 on PATH. Raises Failure where there is none."""
         named = named or os.environ.get("ROMP801")
         if named:
             if not _runs(named):
                 raise Failure(f"there is no program {named}", WRONG_USE)
             return cls(os.path.abspath(named))
-        if _runs(str(PROVED)):
-            return cls(str(PROVED))
+        for built in (INSTALLED, PROVED):
+            if _runs(str(built)):
+                return cls(str(built))
         if _runs(str(UNPROVED)):
             if sys.stderr is not None and sys.stderr.isatty():
                 print(f"{os.path.basename(sys.argv[0])}: the program is unproved", file=sys.stderr)

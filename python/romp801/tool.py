@@ -4,18 +4,23 @@ from __future__ import annotations
 
 import argparse
 import contextlib
+import json
 import os
 import pathlib
 import sys
 import textwrap
 import traceback
-from typing import Callable, NoReturn, Optional
+from typing import Any, Callable, NoReturn, Optional
 
+from romp801 import files
 from romp801.errors import FAILED, Failure, WRONG_USE, named
 
 Parser = argparse.ArgumentParser
 Options = argparse.Namespace
 WIDTH = 80
+DESCRIBE = "--describe"
+INSTALLED = "romp801-"
+"""What the name of a script begins with where it is called as it was installed."""
 INTERRUPTED, NO_READER = 130, 141
 
 
@@ -120,20 +125,38 @@ def _named(line: list[str]) -> list[str]:
     return line[:at] + [f"./{it}" if it.startswith("-") else it for it in line[at + 1 :]]
 
 
+def _described(parser: Parser, about: str, statuses: str) -> dict[str, Any]:
+    """What the words of a script are, for its page and its completion: they are made of this."""
+    words = [
+        {
+            "names": it.option_strings,
+            "value": None if it.nargs == 0 else it.metavar,
+            "help": (it.help or "") % {"prog": parser.prog},
+            "may lack": not it.required,
+            "many": it.nargs in ("*", "+"),
+        }
+        for it in parser._actions
+    ]
+    return {"name": name(), "about": about.strip().split("\n\n"), "words": words, "statuses": statuses}
+
+
 def arguments(
     description: Optional[str], statuses: str, add: Callable[[argparse.ArgumentParser], object]
 ) -> argparse.Namespace:
     """The words of the command line. `add` takes the parser and adds what the script wants; `statuses` says what it
-    ends with."""
+    ends with. With --describe alone it prints as JSON what its words are."""
     folder = pathlib.Path(sys.argv[0]).resolve().parent.name
     parser = _Words(
-        prog=f"{folder}/{name()}",
+        prog=name() if name().startswith(INSTALLED) else f"{folder}/{name()}",
         description=_folded(description or ""),
         formatter_class=_Form,
         allow_abbrev=False,
         epilog=_folded(f"Exit status: {statuses}"),
     )
     add(parser)
+    if sys.argv[1:] == [DESCRIBE]:
+        print(json.dumps(_described(parser, description or "", statuses), indent=1), flush=True)
+        os._exit(0)
     try:
         return parser.parse_args(_named(sys.argv[1:]))
     except _Over:
@@ -147,7 +170,7 @@ def add_program(parser: argparse.ArgumentParser) -> None:
         "--program",
         metavar="FILE",
         help="the program to call; else that of the variable ROMP801, else the one that was "
-        "built here, proved or else unproved, else romp801 on PATH",
+        "installed or built beside this, proved or else unproved, else romp801 on PATH",
     )
 
 
@@ -169,6 +192,21 @@ def add_wait(parser: argparse.ArgumentParser, default: Optional[float] = 0.0) ->
         default=default,
         help=f"wait so long for a store that another process has, such as 0.5; usually {usual}",
     )
+
+
+def add_json(parser: argparse.ArgumentParser) -> None:
+    """The option --json."""
+    parser.add_argument("--json", action="store_true", help="print it as JSON, an object a line")
+
+
+def put_json(found: object) -> None:
+    """An object as JSON, in a line."""
+    print(json.dumps(found), flush=True)
+
+
+def source(path: str) -> bytes:
+    """The bytes of a file that is no store; standard input where its name is -."""
+    return standard_input() if path == "-" else files.read_bytes(path)
 
 
 def standard_input() -> bytes:
