@@ -11,7 +11,6 @@ import fcntl
 import os
 import stat
 import struct
-import tempfile
 import time
 from typing import BinaryIO, Iterator, Optional, Union
 
@@ -365,6 +364,8 @@ def in_memory(data: bytes) -> Iterator[int]:
         try:
             file = os.memfd_create("romp801", os.MFD_CLOEXEC)
         except OSError:
+            import tempfile
+
             with tempfile.TemporaryFile() as there:
                 file = os.dup(there.fileno())
     except OSError as error:
@@ -385,6 +386,8 @@ def copy_of(data: bytes) -> Iterator[tuple[str, list[int]]]:
         if is_there(name):
             yield name, [file]
             return
+    import tempfile
+
     with tempfile.TemporaryDirectory(prefix="romp801-") as folder:
         write_whole(f"{folder}/store", data)
         yield f"{folder}/store", []

@@ -2,8 +2,6 @@
 from __future__ import annotations
 
 import os
-import pathlib
-import shutil
 import stat
 import subprocess
 import sys
@@ -13,10 +11,10 @@ from romp801 import files, words
 from romp801.errors import WRONG_USE, Failure
 from romp801.format import Fault
 
-TOP = pathlib.Path(__file__).resolve().parent.parent.parent
-PROVED = TOP / "crates/romp801/out/romp801"
-UNPROVED = TOP / "out/unproved/romp801"
-INSTALLED = TOP / "program"
+TOP = os.path.dirname(os.path.dirname(os.path.dirname(os.path.realpath(__file__))))
+PROVED = os.path.join(TOP, "crates/romp801/out/romp801")
+UNPROVED = os.path.join(TOP, "out/unproved/romp801")
+INSTALLED = os.path.join(TOP, "program")
 OF_A_STORE = ("run", "show", "ship", "follow")
 LOOKS = ("show", "ship")
 BUSY = 5
@@ -52,12 +50,14 @@ class Program:
                 raise Failure(f"there is no program {named}", WRONG_USE)
             return cls(os.path.abspath(named))
         for built in (INSTALLED, PROVED):
-            if _runs(str(built)):
-                return cls(str(built))
-        if _runs(str(UNPROVED)):
+            if _runs(built):
+                return cls(built)
+        if _runs(UNPROVED):
             if sys.stderr is not None and sys.stderr.isatty():
                 print(f"{os.path.basename(sys.argv[0])}: the program is unproved", file=sys.stderr)
-            return cls(str(UNPROVED))
+            return cls(UNPROVED)
+        import shutil
+
         found = shutil.which("romp801")
         if not found:
             raise Failure(

@@ -1,15 +1,12 @@
 """How a script begins and ends: its words, its streams and its status, which is never that of an answer where it
-failed."""
+failed. What few calls need is brought in where they do, so that a script begins soon.
+"""
 from __future__ import annotations
 
 import argparse
 import contextlib
-import json
 import os
-import pathlib
 import sys
-import textwrap
-import traceback
 from typing import Any, Callable, NoReturn, Optional
 
 from romp801 import files
@@ -26,7 +23,7 @@ INTERRUPTED, NO_READER = 130, 141
 
 def name() -> str:
     """The script's name."""
-    return pathlib.Path(sys.argv[0]).name
+    return os.path.basename(sys.argv[0])
 
 
 def say(message: str) -> None:
@@ -69,6 +66,8 @@ def _status_of(main: Callable[[], int]) -> int:
     except MemoryError:
         say("there was no memory")
     except Exception as error:
+        import traceback
+
         place = traceback.extract_tb(error.__traceback__)[-1]
         say(f"a mistake in the script: {type(error).__name__}: {error} (line {place.lineno} of {place.filename})")
     return FAILED
@@ -93,6 +92,9 @@ class _Form(argparse.RawDescriptionHelpFormatter):
     def __init__(self, prog: str) -> None:
         super().__init__(prog, width=WIDTH, max_help_position=20)
 
+    def _fill_text(self, text: str, width: int, indent: str) -> str:
+        return _folded(text)
+
 
 class _Words(argparse.ArgumentParser):
     """Words of the command line; where they are mistaken the script says so and ends as any other."""
@@ -113,6 +115,8 @@ class _Over(Exception):
 
 def _folded(text: str) -> str:
     """A text within WIDTH columns: its paragraphs filled, and lines that are set in as they are."""
+    import textwrap
+
     parts = (it if it.startswith(" ") else textwrap.fill(it, WIDTH) for it in text.strip().split("\n\n"))
     return "\n\n".join(parts)
 
@@ -145,17 +149,17 @@ def arguments(
 ) -> argparse.Namespace:
     """The words of the command line. `add` takes the parser and adds what the script wants; `statuses` says what it
     ends with. With --describe alone it prints as JSON what its words are."""
-    folder = pathlib.Path(sys.argv[0]).resolve().parent.name
+    folder = os.path.basename(os.path.dirname(os.path.realpath(sys.argv[0])))
     parser = _Words(
         prog=name() if name().startswith(INSTALLED) else f"{folder}/{name()}",
-        description=_folded(description or ""),
+        description=description or "",
         formatter_class=_Form,
         allow_abbrev=False,
-        epilog=_folded(f"Exit status: {statuses}"),
+        epilog=f"Exit status: {statuses}",
     )
     add(parser)
     if sys.argv[1:] == [DESCRIBE]:
-        print(json.dumps(_described(parser, description or "", statuses), indent=1), flush=True)
+        put_json(_described(parser, description or "", statuses))
         os._exit(0)
     try:
         return parser.parse_args(_named(sys.argv[1:]))
@@ -201,6 +205,8 @@ def add_json(parser: argparse.ArgumentParser) -> None:
 
 def put_json(found: object) -> None:
     """An object as JSON, in a line."""
+    import json
+
     print(json.dumps(found), flush=True)
 
 
