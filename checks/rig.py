@@ -2,13 +2,15 @@
 
 The tools are treated as programs here: nothing is taken from their code.
 """
+import contextlib
 import os
 import pathlib
 import shutil
 import signal
 import subprocess
+import sys
 from dataclasses import dataclass, field
-from typing import Dict, List, Optional, Sequence
+from typing import Dict, List, NamedTuple, Optional, Sequence
 
 TOP = pathlib.Path(__file__).resolve().parent.parent
 FRONT = ("frames 2\nprogram add5\n.window 1, 1, rw\ncau r6, r0, 0x1000\nl r3, 0(r6)\nai r3, r3, 5\nst r3, 0(r6)\n"
@@ -41,6 +43,32 @@ class Found:
             self.wrong.append(what)
             print(f"checks: {what}", flush=True)
         return holds
+
+
+def end_in_order() -> None:
+    """A signal to end ends the script as an error does, so that what is mounted and made is taken away."""
+    for number in (signal.SIGTERM, signal.SIGHUP):
+        signal.signal(number, lambda what, _: sys.exit(128 + what))
+
+
+class Process(NamedTuple):
+    """A process that hasn't ended: its number, its parent's and its name."""
+    number: int
+    parent: int
+    name: str
+
+
+def of_session(session: int) -> List[Process]:
+    """The processes of a session that haven't ended."""
+    found = []
+    for number in filter(str.isdigit, os.listdir("/proc")):
+        with contextlib.suppress(OSError):
+            with open(f"/proc/{number}/stat", encoding="utf-8", errors="replace") as stat:
+                front, _, rest = stat.read().rpartition(")")
+            state, parent, _, its = rest.split()[:4]
+            if int(its) == session and state not in "ZX":
+                found.append(Process(int(number), int(parent), front.partition("(")[2]))
+    return found
 
 
 HANGS = -1000                    # the status of what didn't end in time
