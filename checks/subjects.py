@@ -72,7 +72,8 @@ class Subject:
     source: bytes = b""
     is_writing = True
     calls: Sequence[str] = ()    # words with which it calls the program on the run's files
-    goes_on = False              # whether it may be called again until it ends well
+    goes_on = False              # whether it may be called again, over what a kill left
+    ends_when_well = True        # whether nothing is left to be done when a call ended well
     is_same = True               # whether it finds the same files each time
     is_script = True             # whether it is a script of tools/
 
@@ -259,7 +260,7 @@ class Move(Subject):
 
 class Backup(Subject):
     """A copy over an older one."""
-    name, goes_on = "backup", True
+    name, goes_on, ends_when_well = "backup", True, False
 
     def prepare(self, it: Place) -> None:
         it.new("store", 1)
@@ -285,7 +286,7 @@ class Backup(Subject):
 
 class Restore(Subject):
     """A copy in the place of a store, which is kept."""
-    name, goes_on = "restore", True
+    name, goes_on, ends_when_well = "restore", True, False
 
     def __init__(self) -> None:
         self.keeps = 0
@@ -318,7 +319,7 @@ class Restore(Subject):
 
 class Reading(Subject):
     """What only reads: it answers as ever or fails, and changes nothing."""
-    is_writing, goes_on = False, True
+    is_writing, goes_on, ends_when_well = False, True, False
     wanted = ""
 
     def prepare(self, it: Place) -> None:
@@ -393,7 +394,7 @@ class Word(Subject):
 
 class Run(Word):
     """A job: what was told is kept, and at most one commit more."""
-    name, source, goes_on = "run", rig.adds(3), True
+    name, source, goes_on, ends_when_well = "run", rig.adds(3), True, False
 
     def __init__(self) -> None:
         self.had = 0
@@ -451,7 +452,7 @@ class Follow(Word):
 
 class Looking(Word):
     """What prints of a store and changes nothing: all of it where it ends well, else a front part."""
-    is_writing, goes_on = False, True
+    is_writing, goes_on, ends_when_well = False, True, False
     tail: Sequence[str] = ()
 
     def prepare(self, it: Place) -> None:
