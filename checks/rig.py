@@ -74,7 +74,7 @@ def of_session(session: int) -> List[Process]:
 HANGS = -1000                    # the status of what didn't end in time
 
 
-def call(words: Sequence[str], given: bytes = b"", folder: Optional[str] = None, seconds: float = 120,
+def call(words: Sequence[str], given: bytes = b"", folder: Optional[str] = None, seconds: float = 600,
          environment: Optional[Dict[str, str]] = None) -> Done:
     """Runs a program to its end, on these bytes; one that doesn't end in time is ended, with all that it began."""
     with subprocess.Popen(words, stdin=subprocess.PIPE, stdout=subprocess.PIPE, stderr=subprocess.PIPE, cwd=folder,

@@ -26,7 +26,7 @@ work_all() {
         round=$((round + 1))
         again=
         for store in 0 1 2 3; do
-            setsid "$tools/work" "store.$store" "$programs" "$1.$store" >"out.$store" 2>"said.$store" &
+            setsid "$tools/work" --wait 600 "store.$store" "$programs" "$1.$store" >"out.$store" 2>"said.$store" &
             eval "call$store=$!"
         done
         for store in 0 1 2 3; do
