@@ -162,7 +162,8 @@ def arguments(
         put_json(_described(parser, description or "", statuses))
         os._exit(0)
     try:
-        return parser.parse_args(_named(sys.argv[1:]))
+        # (an option may stand among the other words)
+        return parser.parse_intermixed_args(_named(sys.argv[1:]))
     except _Over:
         sys.stdout.flush()
         os._exit(0)
