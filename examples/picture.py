@@ -38,7 +38,7 @@ class Lane:
     """One activation: its name, its row, the columns of its begin and its end, and those from which it waits and from
     which it doesn't."""
 
-    def __init__(self, number: str, name: str, row: int, column: int) -> None:
+    def __init__(self, number: int, name: str, row: int, column: int) -> None:
         self.number, self.name, self.row = number, name, row
         self.begin = column
         self.end: Optional[int] = None
@@ -57,7 +57,7 @@ class Report:
 
     def __init__(self) -> None:
         self.columns: list[list[tuple[Any, ...]]] = []
-        self.lanes: dict[str, Lane] = {}
+        self.lanes: dict[int, Lane] = {}
         self.free: list[Optional[int]] = []  # for each row, the column from which it is free, or None
         self.crashed = False
 
@@ -66,31 +66,29 @@ class Report:
         self.columns.append([])
         return len(self.columns) - 1
 
-    def put(self, *item: str) -> None:
+    def put(self, *item: object) -> None:
         """Puts something into the last column."""
         self.columns[-1].append(item)
 
-    def begin(self, words: list[str]) -> None:
-        """A line that begins an activation, or refuses it: it takes the first row that is free."""
+    def begin(self, number: int, name: str) -> None:
+        """An activation begins, or is refused: it takes the first row that is free."""
         column = self.new_column()
         row = next((row for row, free in enumerate(self.free) if free is not None and free <= column), len(self.free))
         if row == len(self.free):
             self.free.append(None)
         self.free[row] = None
-        self.lanes[words[1]] = Lane(words[1], words[2], row, column)
-        self.put("begin", words[1])
-        if words[0] in reports.REFUSED:
-            self.over(words[1], words[0], RED)
+        self.lanes[number] = Lane(number, name, row, column)
+        self.put("begin", number)
 
-    def turn(self, number: str, rows: str) -> None:
+    def turn(self, number: int, rows: int) -> None:
         """A turn: whoever waited doesn't from here on."""
         column = self.new_column()
         lane = self.lanes[number]
         if lane.waits and lane.waits[-1][1] is None:
             lane.waits[-1][1] = column
-        self.put("turn", number, rows)
+        self.put("turn", number, str(rows))
 
-    def over(self, number: str, words: str, color: str) -> None:
+    def over(self, number: int, words: str, color: str) -> None:
         """An activation ends in the last column."""
         lane = self.lanes[number]
         lane.end = len(self.columns) - 1
@@ -103,37 +101,41 @@ class Report:
         self.put("across", words, color)
         self.new_column()
 
-    def take(self, words: list[str]) -> None:
-        """Takes one line of the report; raises an error where it is none."""
-        kind = words[0]
-        if kind in ("begin", *reports.REFUSED):
-            self.begin(words)
-        elif kind == "turn":
-            self.turn(words[1], words[3])
-        elif kind == "wait":
-            self.lanes[words[1]].waits.append([len(self.columns) - 1, None])
-            for other in words[3:]:
-                self.put("arrow", words[1], self.lanes[other].number, ORANGE)
-        elif kind == "cycle":
-            for waiting, other in zip(words[1:], words[2:]):
+    def end(self, line: reports.Ended) -> None:
+        """A line with which an activation ends, or is refused."""
+        if isinstance(line, reports.Refused):
+            self.begin(line.activation, line.name)
+        if isinstance(line, reports.Lost) and not self.crashed:
+            self.across("crash", RED)
+        label, color = line.word, RED
+        if isinstance(line, reports.Commit):
+            label, color = str(line.number), GREEN
+        elif isinstance(line, reports.Check):
+            label = f"check {line.code}"
+        elif isinstance(line, reports.Left):
+            color = ORANGE
+        self.over(line.activation, label, color)
+
+    def take(self, line: reports.Line) -> None:
+        """Takes one line of the report; raises KeyError where its activation hasn't begun."""
+        if isinstance(line, reports.Begin):
+            self.begin(line.activation, line.name)
+        elif isinstance(line, reports.Turn):
+            self.turn(line.activation, line.rows)
+        elif isinstance(line, reports.Wait):
+            self.lanes[line.activation].waits.append([len(self.columns) - 1, None])
+            for other in line.holders:
+                self.put("arrow", line.activation, self.lanes[other].number, ORANGE)
+        elif isinstance(line, reports.Cycle):
+            for waiting, other in zip(line.members, line.members[1:]):
                 self.put("arrow", self.lanes[waiting].number, self.lanes[other].number, RED)
-        elif kind == "stored":
-            self.across(f"checkpoint {int(words[1])}", GREEN)
-        elif kind in reports.ENDS:
-            if kind == "lost" and not self.crashed:
-                self.across("crash", RED)
-                self.crashed = True
-            label = words[3] if kind == "commit" else f"check {words[3]}" if kind == "check" else kind
-            self.over(words[1], label, GREEN if kind == "commit" else ORANGE if kind == "left" else RED)
-        elif kind == "open":
-            int(words[1])
-            if self.columns and not self.crashed:
-                self.across("crash", RED)
-        elif kind == "closed":
-            self.across("closed", RED)
-        elif kind in ("idle", "end"):
-            int(words[1])
-        self.crashed = kind == "lost"
+        elif isinstance(line, reports.Stored):
+            self.across(f"checkpoint {line.number}", GREEN)
+        elif isinstance(line, reports.Ended):
+            self.end(line)
+        elif isinstance(line, reports.Closed) or isinstance(line, reports.Open) and self.columns and not self.crashed:
+            self.across("closed" if isinstance(line, reports.Closed) else "crash", RED)
+        self.crashed = isinstance(line, reports.Lost)
 
 
 class Band:
@@ -160,7 +162,7 @@ class Band:
         """Where a column stands."""
         return LEFT + COLUMN * (column - self.first + 1)
 
-    def y(self, number: str) -> int:
+    def y(self, number: int) -> int:
         """The height of an activation's lane."""
         return self.top + TOP + LANE * self.report.lanes[number].row + LANE // 2
 
@@ -185,13 +187,13 @@ class Band:
                 f'<line x1="{x - COLUMN}" y1="{y}" x2="{x}" y2="{y}" stroke="{GREY}" stroke-width="2"{dashes}/>'
             )
 
-    def begin(self, x: int, number: str) -> None:
+    def begin(self, x: int, number: int) -> None:
         """A bar and the name."""
         y, lane = self.y(number), self.report.lanes[number]
         self.shapes.append(f'<line x1="{x}" y1="{y - 8}" x2="{x}" y2="{y + 8}" stroke="{GREY}" stroke-width="3"/>')
         self.text(x - 2, y - 13, f"{number} {lane.name}", anchor="start")
 
-    def turn(self, x: int, number: str, rows: str) -> None:
+    def turn(self, x: int, number: int, rows: str) -> None:
         """A box with the rows."""
         y = self.y(number)
         self.shapes.append(
@@ -200,7 +202,7 @@ class Band:
         )
         self.shapes.append(f'<text x="{x}" y="{y + 4}" fill="{BLUE}" text-anchor="middle">{escape(rows)}</text>')
 
-    def arrow(self, x: int, start: str, end: str, color: str) -> None:
+    def arrow(self, x: int, start: int, end: int, color: str) -> None:
         """From one that waits to the other; those of a cycle are bent."""
         y, to = self.y(start), self.y(end)
         shift = 6 if to > y else -6
@@ -210,7 +212,7 @@ class Band:
             f'fill="none" stroke="{color}" stroke-width="2" marker-end="url(#{ARROWS[color]})"/>'
         )
 
-    def end(self, x: int, number: str, words: str, color: str) -> None:
+    def end(self, x: int, number: int, words: str, color: str) -> None:
         """A dot or a cross, and words beside it."""
         self.shapes.append(ending(x + 18, self.y(number), color))
         self.text(x + 28, self.y(number) + 4, words, color, "start")
@@ -302,9 +304,12 @@ def main() -> int:
         raise Failure("there are no lines", NO)
     found = Report()
     try:
-        reports.read(text.decode("latin-1"), found.take)
+        for place, line in enumerate(reports.read(text.decode("latin-1")), 1):
+            found.take(line)
     except reports.NoReport as none:
         raise Failure(f"{none}: {none.line[:60]}", NO) from none
+    except KeyError as error:
+        raise Failure(f"line {place} is no line of a report: {line}", NO) from error
     sys.stdout.write(written(found))
     return 0
 
