@@ -2,5 +2,5 @@ mod Elders
 mod Turns
 mod Sums
 mod Instructed
-pub mod RoundLemmas
+mod RoundLemmas
 mod RoundsEnd
