@@ -1,3 +1,4 @@
+pub mod AskedLemmas
 pub mod Common
 pub mod StopLemmas
 pub mod SeenLemmas
