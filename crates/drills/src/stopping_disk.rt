@@ -7,7 +7,7 @@ use outside::{Disk, Failed, MemoryDisk};
 use real_files::FileTrace;
 use std::alloc::Global;
 
-/// The kinds of notes of a trace.
+// The kinds of notes of a trace.
 const WROTE: u64 = 0;
 
 const TORE: u64 = 1;
@@ -25,8 +25,8 @@ pub struct StoppingDisk {
 }
 
 impl StoppingDisk {
-    ghost use Rattle.std.specs.Prelude.{◌≤◌, ◌↔◌, List, ℕ, [], Some, false};
-    ghost use Rattle.outside.specs.MemoryDisk.{disk_faults, disk_held, disk_images, disk_moment, disk_origin, disk_writes, is_disk_starved};
+    ghost use Rattle.std.specs.Prelude.{◌≤◌, ◌↔◌, List, ℕ, [], Some};
+    ghost use Rattle.outside.specs.MemoryDisk.{disk_faults, disk_held, disk_images, disk_moment, disk_origin, disk_writes};
     ghost use Rattle.drills.specs.StoppingDisk.{deeds_of, memory_of};
 
     /// A disk that holds these bytes, which are its only crash image, and stops at the write with this number, counted from 1. The
