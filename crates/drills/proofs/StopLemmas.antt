@@ -2,7 +2,8 @@
 use Rattle.desk_law.proofs.HeadlineLemmas.{start_is_prefix}
 use Rattle.call_status.specs.Call.{Called}
 use Rattle.drills.proofs.AskedLemmas.{opened_asks}
-use Rattle.drills.proofs.Common.{◌≡◌, ◌⊎◌, ℕ, ◌+◌, ◌*◌, ◌≤◌, inl, inr, Bool, true, false, List, [], ◌∷◌, ◌++◌, length, map, take, rules, cond, refl, sym, ◌∙◌, ap, subst, arith, append-nil, append_assoc, Option, Some, None, ◌↔◌, Result, Ok, IsSome, unwrap_or, count_by, not, length-map, length-append, length-filter, sum_by-append, Ghosts, Rose, Elapses, FewerLater, held_of, disk_faults, disk_held, disk_images, disk_moment, disk_writes, FlatStore, Program, header_of, most_lines, stands, Event, Committed, order_told, commits_seen, Job, Status, Stop, HasAsked, IsRunLeft, IsStop, IsStoppedRun, IsTold, all_fine, fine_order, Happening, happened, OpenedWith, Since, Deed, Synced, Tore, StoppingDisk, deeds_of, memory_of, AreFewer, AreStopped, left_after, ByOpening, DidBy, FoundNoStore, JobHasRun, HasRunFrom, HappenedTo, StoodForNone, TellsStore, Untouched, job_desk, names_of, call, StandsAt, ⊎_elim, cases_Bool, flat_map, AreTold, Prints, screen_printed, MemoryDisk, disk_origin, disk_plan, Origin, outcome_of, put_by, stop_number}
+use Rattle.drills.proofs.SomeLemmas.{opened-some, stands-ready}
+use Rattle.drills.proofs.Common.{◌≡◌, ◌⊎◌, ℕ, ◌+◌, ◌*◌, ◌≤◌, inl, inr, Bool, true, false, List, [], ◌∷◌, ◌++◌, length, map, take, rules, cond, refl, sym, ◌∙◌, ap, subst, arith, append-nil, append_assoc, Option, Some, None, ◌↔◌, Result, Ok, IsSome, unwrap_or, count_by, not, length-map, length-append, length-filter, sum_by-append, Ghosts, Rose, Elapses, FewerLater, held_of, disk_faults, disk_held, disk_images, disk_moment, disk_writes, FlatStore, Stands, Program, header_of, most_lines, stands, Event, Committed, order_told, commits_seen, Job, Status, Stop, HasAsked, IsRunLeft, IsStop, IsStoppedRun, IsTold, all_fine, fine_order, Happening, happened, OpenedWith, Since, Deed, Synced, Tore, StoppingDisk, deeds_of, memory_of, AreFewer, AreStopped, left_after, ByOpening, DidBy, FoundNoStore, JobHasRun, HasRunFrom, HappenedTo, StoodForNone, TellsStore, Untouched, job_desk, names_of, call, StandsAt, ⊎_elim, cases_Bool, flat_map, AreTold, Prints, screen_printed, MemoryDisk, disk_origin, disk_plan, Origin, outcome_of, put_by, stop_number}
 use Rattle.std.proofs.Math.Logic.{∥∥₁_elim}
 use Rattle.outside.specs.Deeds.{EndsBroken, IsCut, broken}
 use Rattle.std.specs.Option.{option_and_then}
@@ -274,6 +275,7 @@ module _ (job : Job) (held : List ℕ) (number : ℕ) (store : FlatStore) (write
   order = order_told ended.order.items
 
   pub record HasLeft : Type 0 where
+    pub stood : stands held ≡ Stands number store
     pub first : IsPrefix (begun job.programs.items job.events.items) number store (order_told ended.order.items) [] (disk_held (memory_of disk)) (screen_printed screen)
     pub ran : (ended.status ≡ Status.PutFault → ⊥) → IsStoppedRun (names_of job) job.programs.items job.events.items number (job_desk job held store) (order_told ended.order.items) (commits_seen (screen_printed screen)) (AskedFor (left_after outcome held) (deeds_of disk) ended.status) × (ended.status ≡ Status.Done → commits_seen (screen_printed screen) ≡ length (order_told ended.order.items))
     pub writes : ended.status ≡ Status.Done → 2 * length (order_told ended.order.items) ≤ disk_writes (memory_of disk)
@@ -321,14 +323,17 @@ module _ (job : Job) (held : List ℕ) (number : ℕ) (store : FlatStore) (write
         let seen : stop.seen ≤ first.j = omega (arith, told.seen, left.first.told, ap commits_seen left.first.seen_is) in
         let asks = OpenedWith (left_after outcome held) (deeds_of disk) in
         let start = job_desk job held store in
+        let its =
+        asked-so (names_of job) job.programs.items job.events.items number start order (commits_seen (screen_printed screen)) (AskedFor (left_after outcome held) (deeds_of disk) ended.status) asks all-asked ran in
         record {
           deeds = deeds_of disk;
+          some = opened-some outcome held (stands-ready held number store left.stood) (happened job.programs.items its.taken start) (deeds_of disk) its.asked;
           stopped = are-stopped;
           ended = are-fewer;
           image_is = told.image_is ∙ deeds-left disk held write outcome left.origin;
           ran = subst (λ (n : ℕ). IsStoppedRun (names_of job) job.programs.items job.events.items number start (order_told stop.order.items) n asks) (sym told.seen)
               (subst (λ (commits : List Committed). IsStoppedRun (names_of job) job.programs.items job.events.items number start (order_told commits) (commits_seen (screen_printed screen)) asks) (sym told.order_is)
-              (asked-so (names_of job) job.programs.items job.events.items number start order (commits_seen (screen_printed screen)) (AskedFor (left_after outcome held) (deeds_of disk) ended.status) asks all-asked ran));
+              its);
           j = first.j;
           told = seen;
           few = omega (arith, first.few, count);

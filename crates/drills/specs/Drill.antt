@@ -1,6 +1,6 @@
 -- What a job leaves on a disk that stops at one of its writes.
 use Rattle.std.specs.Prelude.{◌≢◌, ◌≡◌, ◌⊎◌, ℕ, ◌+◌, ◌*◌, ◌%◌, ◌^◌, ◌≤◌, true, false, List, [], length, map, take, count_by, IfOk, Result, Some}
-use Rattle.drills.specs.Asked.{OpenedWith}
+use Rattle.drills.specs.Asked.{AreSome, OpenedWith}
 use Rattle.drills.specs.Below.{Called, call, commits_seen, disk_faults, disk_held, disk_plan, FlatStore, Ghosts, Job, job_desk, names_of, order_told, Rose, Stands, stands, StandsAt, Status}
 use Rattle.outside.specs.Deeds.{Deed, SyncsOnce}
 use Rattle.outside.specs.declared.memory_screen.MemoryScreen.{MemoryScreen}
@@ -66,13 +66,14 @@ pub record IsTold (ended : Ended) (disk : StoppingDisk) (screen : MemoryScreen) 
   pub image_is : stop.image.items ≡ disk_held (memory_of disk)
 
 -- A stop's order and the commit lines seen are those of one run of the desk. What was asked of the disk is what happened at that run's events asks, in order, and no
--- more; it has left the image. Where the write with this number was reached, it is the last that was asked, and it alone failed and left this outcome; where it
+-- more; each write among it has bytes, and it has left the image. Where the write with this number was reached, it is the last that was asked, and it alone failed and left this outcome; where it
 -- wasn't, nothing failed, fewer writes were made, all events went well and all commits were seen. The image stands for the first commits of the order, run one after
 -- another on the store before, and no fewer than were seen, or for all.
 pub record IsStop (job : Job) (held : List ℕ) (number : ℕ) (store : FlatStore) (write : ℕ) (outcome : List ℕ) (stop : Stop) : Type 0 where
   pub deeds : List Deed
   pub stopped : stop.reached ≡ true → ∥ AreStopped write deeds ∥₁
   pub ended : stop.reached ≡ false → AreFewer write deeds
+  pub some : AreSome deeds
   pub image_is : stop.image.items ≡ left_after outcome held deeds
   pub ran : IsStoppedRun (names_of job) job.programs.items job.events.items number (job_desk job held store) (order_told stop.order.items) stop.seen (OpenedWith (left_after outcome held) deeds)
   pub j : ℕ

@@ -21,6 +21,7 @@ has-left c number store stood =
           ap stands (one-image made (memory_of outside.disk) c.args.image.items image left.at same c.new-disk.ensures.moment c.new-disk.ensures.images left.by_now left.is_image) ∙ stood;
     }) in
     record {
+      stood = stood;
       first = left.first (disk_held (memory_of after.disk)) (screen_printed after.screen) refl (ap (λ (bytes : List ℕ). Some bytes) nothing) refl;
       ran =
           run-deeds left c.args.image.items (disk_held (memory_of after.disk)) (screen_printed after.screen) (left_after c.args.outcome.items c.args.image.items) (deeds_of after.disk)
