@@ -1,3 +1,5 @@
+pub mod AskedLemmas
+pub mod SomeLemmas
 pub mod Common
 pub mod StopLemmas
 pub mod SeenLemmas

@@ -1,6 +1,11 @@
 -- What a run leaves on a disk that stops.
 use Rattle.desk_law.proofs.HeadlineLemmas.{start_is_prefix}
-use Rattle.drills.proofs.Common.{◌≡◌, ℕ, ◌+◌, ◌*◌, ◌<◌, ◌≤◌, inl, inr, Bool, true, false, List, [], ◌∷◌, ◌++◌, length, map, take, rules, cond, refl, sym, ◌∙◌, ap, subst, arith, append-nil, append_assoc, Option, Some, None, ◌↔◌, Result, Ok, IsSome, unwrap_or, count_by, not, length-map, length-append, length-filter, sum_by-append, Ghosts, Rose, Elapses, FewerLater, held_of, disk_faults, disk_first, disk_held, disk_images, disk_moment, disk_writes, FlatStore, Program, header_of, most_lines, stands, Event, Committed, order_told, commits_seen, Job, Status, Stop, IsRunLeft, IsStop, IsStoppedRun, IsTold, all_fine, fine_order, ByOpening, DidBy, FoundNoStore, JobHasRun, HasRunFrom, HappenedTo, StoodForNone, TellsStore, Untouched, job_desk, names_of, call, StandsAt, ⊎_elim, cases_Bool, flat_map, AreTold, Prints, screen_printed, MemoryDisk, disk_origin, disk_plan, Origin, outcome_of, put_by, WereStopped, WereWritten, stop_number}
+use Rattle.call_status.specs.Call.{Called}
+use Rattle.drills.proofs.AskedLemmas.{opened_asks}
+use Rattle.drills.proofs.SomeLemmas.{opened-some, stands-ready}
+use Rattle.drills.proofs.Common.{◌≡◌, ◌⊎◌, ℕ, ◌+◌, ◌*◌, ◌≤◌, inl, inr, Bool, true, false, List, [], ◌∷◌, ◌++◌, length, map, take, rules, cond, refl, sym, ◌∙◌, ap, subst, arith, append-nil, append_assoc, Option, Some, None, ◌↔◌, Result, Ok, IsSome, unwrap_or, count_by, not, length-map, length-append, length-filter, sum_by-append, Ghosts, Rose, Elapses, FewerLater, held_of, disk_faults, disk_held, disk_images, disk_moment, disk_writes, FlatStore, Stands, Program, header_of, most_lines, stands, Event, Committed, order_told, commits_seen, Job, Status, Stop, HasAsked, IsRunLeft, IsStop, IsStoppedRun, IsTold, all_fine, fine_order, Happening, happened, OpenedWith, Since, Deed, Synced, Tore, StoppingDisk, deeds_of, memory_of, AreFewer, AreStopped, left_after, ByOpening, DidBy, FoundNoStore, JobHasRun, HasRunFrom, HappenedTo, StoodForNone, TellsStore, Untouched, job_desk, names_of, call, StandsAt, ⊎_elim, cases_Bool, flat_map, AreTold, Prints, screen_printed, MemoryDisk, disk_origin, disk_plan, Origin, outcome_of, put_by, stop_number}
+use Rattle.std.proofs.Math.Logic.{∥∥₁_elim}
+use Rattle.outside.specs.Deeds.{EndsBroken, IsCut, broken}
 use Rattle.std.specs.Option.{option_and_then}
 use Rattle.outside.specs.declared.failed.Failed.{Failed as PutFailed}
 use Rattle.outside.specs.declared.memory_screen.MemoryScreen.{MemoryScreen}
@@ -88,7 +93,7 @@ module _ {W : Type 0} (G : Ghosts W) (job : Job) (number : ℕ) (store : FlatSto
 
   -- the commit lines that are seen are those of the run
   ran-left : (status : Status) → AreNames (names_of job) → (seen : List ℕ) → commits_seen seen ≤ length order → JobHasRun G job number store (call before after order status) session → G.printed before ≡ Some [] → G.printed after ≡ Some seen → (status ≡ Status.PutFault → ⊥)
-      → IsStoppedRun (names_of job) job.programs.items job.events.items number (job_desk job (held_of G before) store) order (commits_seen seen) × (status ≡ Status.Done → commits_seen seen ≡ length order)
+      → IsStoppedRun (names_of job) job.programs.items job.events.items number (job_desk job (held_of G before) store) order (commits_seen seen) (HasAsked G (call before after order status)) × (status ≡ Status.Done → commits_seen seen ≡ length order)
   ran-left status are seen few ran nothing prints unfailed =
       let start = job_desk job (held_of G before) store in let end = run job.programs.items ran.ran.taken start in
       let lines = event_lines (names_of job) job.programs.items number ran.ran.taken start in
@@ -107,7 +112,7 @@ module _ {W : Type 0} (G : Ghosts W) (job : Job) (number : ℕ) (store : FlatSto
         | inr on ↦ let each = still (ap (λ (desk : Desk). desk.closed) ran.ran.end_is ∙ on) in omega (arith, whole, split, few, each, same)
       ] in
       let order_is = ran.ran.order_is ∙ ap (λ (desk : Desk). desk.order) ran.ran.end_is in (
-        record { taken = ran.ran.taken; rest = ran.ran.rest; is_run = ran.ran.is_run; order_is = order_is; seen_is = all; most_seen = omega (arith, most, same, all) },
+        record { taken = ran.ran.taken; rest = ran.ran.rest; is_run = ran.ran.is_run; order_is = order_is; seen_is = all; most_seen = omega (arith, most, same, all); asked = inl ran.deeds },
         λ done. all ∙ sym same ∙ sym (still (ran.still_open done)),
       )
 
@@ -153,7 +158,7 @@ module _ {W : Type 0} (G : Ghosts W) (job : Job) (number : ℕ) (store : FlatSto
     ran = λ image seen holds nothing prints unfailed.
         let none : length order ≡ 0 = ap (λ (these : List (ℕ × ℕ)). length these) untouched.no_order in
         let seen_is = ap commits_seen (quiet-left status untouched seen nothing prints) in (
-          record { taken = []; rest = job.events.items; is_run = record { prefix = refl; each_open = tt }; order_is = untouched.no_order; seen_is = seen_is; most_seen = omega (arith, none) },
+          record { taken = []; rest = job.events.items; is_run = record { prefix = refl; each_open = tt }; order_is = untouched.no_order; seen_is = seen_is; most_seen = omega (arith, none); asked = inr (undone, untouched.asks.deeds) },
           λ done. absurd (undone done),
         );
     writes = λ done. absurd (undone done);
@@ -197,23 +202,86 @@ left-same G copy job number store before after order status frames names program
       first = λ image seen holds nothing prints. subst (λ (parts : Parts). IsPrefix (begun parts.programs parts.events) number store order [] image seen) same (left.first image seen holds nothing prints);
       ran = λ image seen holds nothing prints unfailed.
           let (ran, all) = left.ran image seen holds nothing prints unfailed in
-          (subst (λ (parts : Parts). IsStoppedRun parts.names parts.programs parts.events number (opened parts.frames 16 (most_lines (header_of (take 128 (held_of G before)))) store) order (commits_seen seen)) same ran, all);
+          (subst (λ (parts : Parts). IsStoppedRun parts.names parts.programs parts.events number (opened parts.frames 16 (most_lines (header_of (take 128 (held_of G before)))) store) order (commits_seen seen) (HasAsked G (call before after order status))) same ran, all);
       writes = left.writes;
       fine = λ done calm. subst (λ (parts : Parts). order ≡ (run parts.programs (all_fine parts.events) (opened parts.frames 16 (most_lines (header_of (take 128 (held_of G before)))) store)).order) same (left.fine done calm);
     }
 
+-- the same run, of whose events something else is so
+asked-so : (names : List (List ℕ)) (programs : List Program) (events : List Event) (number : ℕ) (start : Desk) (order : List (ℕ × ℕ)) (seen : ℕ) (Asks Other : List Happening → Type 0) → ((these : List Happening) → Asks these → Other these)
+    → IsStoppedRun names programs events number start order seen Asks → IsStoppedRun names programs events number start order seen Other
+asked-so names programs events number start order seen Asks Other so ran = record {
+  taken = ran.taken;
+  rest = ran.rest;
+  is_run = ran.is_run;
+  order_is = ran.order_is;
+  seen_is = ran.seen_is;
+  most_seen = ran.most_seen;
+  asked = so (happened programs ran.taken start) ran.asked;
+}
+
+-- what these ask was asked, behind an opening; or the run didn't end with Done, and one sync was asked at most
+abbrev pub AskedFor : (left : List Deed → List ℕ) (deeds : List Deed) → Status → List Happening → Type 0
+AskedFor left deeds status these = OpenedWith left deeds these ⊎ ((status ≡ Status.Done → ⊥) × IsCut (Synced ∷ []) deeds)
+
+-- a run, by the deeds of its disk
+pub run-deeds : {W : Type 0} {G : Ghosts W} {job : Job} {number : ℕ} {store : FlatStore} {c : Called W} (is : IsRunLeft G job number store c) (first image seen : List ℕ) (left : List Deed → List ℕ) (deeds : List Deed)
+    → G.held c.before ≡ Some first → G.deeds c.before ≡ Some [] → G.deeds c.after ≡ Some deeds
+    → ((w : W) (done : List Deed) → (G.moment w).origin ≡ (G.moment c.before).origin → G.deeds w ≡ Some done → G.held w ≡ Some (left done))
+    → G.held c.after ≡ Some image → G.printed c.before ≡ Some [] → G.printed c.after ≡ Some seen → (c.status ≡ Status.PutFault → ⊥)
+    → IsStoppedRun (names_of job) job.programs.items job.events.items number (job_desk job first store) c.order (commits_seen seen) (AskedFor left deeds c.status) × (c.status ≡ Status.Done → commits_seen seen ≡ length c.order)
+run-deeds {W} {G} {job} {number} {store} {c} is first image seen left deeds held undone deeds_are holds holds_now nothing prints unfailed =
+    let (ran, all) = is.ran image seen holds_now nothing prints unfailed in
+    let bytes : held_of G c.before ≡ first = ap (λ (told : Option (List ℕ)). unwrap_or told []) held in
+    let names = names_of job in let programs = job.programs.items in let events = job.events.items in
+    let here = subst (λ (bytes : List ℕ). IsStoppedRun names programs events number (job_desk job bytes store) c.order (commits_seen seen) (HasAsked G c)) bytes ran in
+    (asked-so names programs events number (job_desk job first store) c.order (commits_seen seen) (HasAsked G c) (AskedFor left deeds c.status) so here, all)
+  where
+    so : (these : List Happening) → HasAsked G c these → AskedFor left deeds c.status these
+    so these (inl opened) = inl (opened_asks G c.before c.after left deeds deeds_are holds these undone opened)
+    so these (inr (not_done, syncs)) =
+        let (done, is, cut) = subst (λ (told : Option (List Deed)). Since told (G.deeds c.after) (IsCut (Synced ∷ []))) undone syncs in
+        let same : done ≡ deeds = let both : Some done ≡ Some deeds = sym is ∙ deeds_are in cc in
+        inr (not_done, subst (IsCut (Synced ∷ [])) same cut)
+
+-- the bytes of a disk that stops are those that its deeds left
+pub deeds-left : (disk : StoppingDisk) (held : List ℕ) (write : ℕ) (outcome : List ℕ) → disk_origin (memory_of disk) ≡ record { first = held; stop = Some (write, outcome) } → disk_held (memory_of disk) ≡ left_after outcome held (deeds_of disk)
+deeds-left disk held write outcome origin = disk.stops.left ∙ ap (λ (origin : Origin). left_after (outcome_of origin.stop) origin.first (deeds_of disk)) origin
+
+-- one sync at most is no write that failed
+is_torn : Deed → Bool
+is_torn (Tore at bytes) = true
+is_torn _ = false
+
+untorn : (front rest done : List Deed) → Synced ∷ [] ≡ front ++ rest → EndsBroken front rest done → count_by is_torn done ≡ 0
+unfolding is_torn
+untorn [] [] done plan ends = absurd (cc)
+untorn [] (deed ∷ rest) done plan (inl is) = ap (count_by is_torn) is
+untorn [] (deed ∷ rest) done plan (inr is) = let synced : Synced ≡ deed = cc in ap (count_by is_torn) is ∙ ap (λ (deed : Deed). count_by is_torn (broken deed ∷ [])) (sym synced)
+untorn (first ∷ []) [] done plan is = let synced : Synced ≡ first = cc in ap (count_by is_torn) is ∙ ap (λ (deed : Deed). count_by is_torn (deed ∷ [])) (sym synced)
+untorn (first ∷ []) (deed ∷ rest) done plan ends = absurd (cc)
+untorn (first ∷ second ∷ front) rest done plan ends = absurd (cc)
+
+unstopped : (write : ℕ) (deeds : List Deed) → IsCut (Synced ∷ []) deeds → AreStopped write deeds → ⊥
+unfolding is_torn
+unstopped write deeds cut are =
+    let none = untorn cut.front cut.rest deeds cut.plan_is cut.ends in
+    let some = sum_by-append (λ (deed : Deed). cond (is_torn deed) 1 0) are.front (Tore are.at are.bytes ∷ []) in
+    omega (arith, none, some, ap (count_by is_torn) are.deeds_are)
+
 -- what a stop is, by what was left and what is told of it
-module _ (job : Job) (held : List ℕ) (number : ℕ) (store : FlatStore) (write : ℕ) (outcome : List ℕ) (ended : Ended) (disk : MemoryDisk) (screen : MemoryScreen) where
+module _ (job : Job) (held : List ℕ) (number : ℕ) (store : FlatStore) (write : ℕ) (outcome : List ℕ) (ended : Ended) (disk : StoppingDisk) (screen : MemoryScreen) where
   abbrev order : List (ℕ × ℕ)
   order = order_told ended.order.items
 
   pub record HasLeft : Type 0 where
-    pub first : IsPrefix (begun job.programs.items job.events.items) number store (order_told ended.order.items) [] (disk_held disk) (screen_printed screen)
-    pub ran : (ended.status ≡ Status.PutFault → ⊥) → IsStoppedRun (names_of job) job.programs.items job.events.items number (job_desk job held store) (order_told ended.order.items) (commits_seen (screen_printed screen)) × (ended.status ≡ Status.Done → commits_seen (screen_printed screen) ≡ length (order_told ended.order.items))
-    pub writes : ended.status ≡ Status.Done → 2 * length (order_told ended.order.items) ≤ disk_writes disk
-    pub fine : ended.status ≡ Status.Done → disk_faults disk ≡ 0 → order_told ended.order.items ≡ fine_order job held store
-    pub fault : ended.status ≡ Status.DiskFault → 1 ≤ disk_faults disk
-    pub origin : disk_origin disk ≡ record { first = held; stop = Some (write, outcome) }
+    pub stood : stands held ≡ Stands number store
+    pub first : IsPrefix (begun job.programs.items job.events.items) number store (order_told ended.order.items) [] (disk_held (memory_of disk)) (screen_printed screen)
+    pub ran : (ended.status ≡ Status.PutFault → ⊥) → IsStoppedRun (names_of job) job.programs.items job.events.items number (job_desk job held store) (order_told ended.order.items) (commits_seen (screen_printed screen)) (AskedFor (left_after outcome held) (deeds_of disk) ended.status) × (ended.status ≡ Status.Done → commits_seen (screen_printed screen) ≡ length (order_told ended.order.items))
+    pub writes : ended.status ≡ Status.Done → 2 * length (order_told ended.order.items) ≤ disk_writes (memory_of disk)
+    pub fine : ended.status ≡ Status.Done → disk_faults (memory_of disk) ≡ 0 → order_told ended.order.items ≡ fine_order job held store
+    pub fault : ended.status ≡ Status.DiskFault → 1 ≤ disk_faults (memory_of disk)
+    pub origin : disk_origin (memory_of disk) ≡ record { first = held; stop = Some (write, outcome) }
 
   module _ (left : HasLeft) (stop : Stop) (told : IsTold ended disk screen stop) where
     -- where the write wasn't reached the run came to its end
@@ -230,14 +298,22 @@ module _ (job : Job) (held : List ℕ) (number : ℕ) (store : FlatStore) (write
     ]
 
     -- the fuse is still the one with which it was made
-    fuse : (disk_plan disk).fuse ≡ Some (write, outcome)
+    fuse : (disk_plan (memory_of disk)).fuse ≡ Some (write, outcome)
     fuse = ap (λ (origin : Origin). origin.stop) left.origin
 
-    few-writes : stop.reached ≡ false → disk_writes disk < write
-    few-writes un = subst (λ (fuse : Option (ℕ × List ℕ)). disk_writes disk < stop_number fuse) fuse (told.unreached un).1
+    are-stopped : stop.reached ≡ true → ∥ AreStopped write (deeds_of disk) ∥₁
+    are-stopped is = subst (λ (fuse : Option (ℕ × List ℕ)). ∥ AreStopped (stop_number fuse) (deeds_of disk) ∥₁) fuse (told.reached is)
 
-    first-is : disk_first disk ≡ held
-    first-is = ap (λ (origin : Origin). origin.first) left.origin
+    are-fewer : stop.reached ≡ false → AreFewer write (deeds_of disk)
+    are-fewer un = subst (λ (fuse : Option (ℕ × List ℕ)). AreFewer (stop_number fuse) (deeds_of disk)) fuse (told.unreached un).1
+
+    -- what was asked is what the events ask
+    all-asked : (these : List Happening) → AskedFor (left_after outcome held) (deeds_of disk) ended.status these → OpenedWith (left_after outcome held) (deeds_of disk) these
+    all-asked these (inl opened) = opened
+    all-asked these (inr (undone, cut)) = elim (cases_Bool stop.reached) [
+      | inl is ↦ absurd (∥∥₁_elim (are-stopped is) (λ one other. absurd one) (unstopped write (deeds_of disk) cut))
+      | inr un ↦ absurd (undone (came-done un))
+    ]
 
     pub stop-is : IsStop job held number store write outcome stop
     stop-is =
@@ -245,18 +321,19 @@ module _ (job : Job) (held : List ℕ) (number : ℕ) (store : FlatStore) (write
         let count : length stop.order.items ≡ length order = ap (λ (commits : List Committed). length commits) told.order_is ∙ sym (length-map ended.order.items (λ (commit : Committed). (commit.activation, commit.steps))) in
         let first = left.first.first in
         let seen : stop.seen ≤ first.j = omega (arith, told.seen, left.first.told, ap commits_seen left.first.seen_is) in
+        let asks = OpenedWith (left_after outcome held) (deeds_of disk) in
+        let start = job_desk job held store in
+        let its =
+        asked-so (names_of job) job.programs.items job.events.items number start order (commits_seen (screen_printed screen)) (AskedFor (left_after outcome held) (deeds_of disk) ended.status) asks all-asked ran in
         record {
-          stopped = λ is.
-              subst (λ (image : List ℕ). ∥ WereStopped held write outcome image ∥₁) (sym told.image_is)
-              (subst (λ (origin : Origin). ∥ WereStopped origin.first (stop_number origin.stop) (outcome_of origin.stop) (disk_held disk) ∥₁) left.origin (told.reached is));
-          ended = λ un. (
-            disk_writes disk,
-            few-writes un,
-            subst (λ (image : List ℕ). ∥ WereWritten held (disk_writes disk) image ∥₁) (sym told.image_is)
-                (subst (λ (first : List ℕ). ∥ WereWritten first (disk_writes disk) (disk_held disk) ∥₁) first-is (told.unreached un).2),
-          );
-          ran = subst (λ (n : ℕ). IsStoppedRun (names_of job) job.programs.items job.events.items number (job_desk job held store) (order_told stop.order.items) n) (sym told.seen)
-              (subst (λ (commits : List Committed). IsStoppedRun (names_of job) job.programs.items job.events.items number (job_desk job held store) (order_told commits) (commits_seen (screen_printed screen))) (sym told.order_is) ran);
+          deeds = deeds_of disk;
+          some = opened-some outcome held (stands-ready held number store left.stood) (happened job.programs.items its.taken start) (deeds_of disk) its.asked;
+          stopped = are-stopped;
+          ended = are-fewer;
+          image_is = told.image_is ∙ deeds-left disk held write outcome left.origin;
+          ran = subst (λ (n : ℕ). IsStoppedRun (names_of job) job.programs.items job.events.items number start (order_told stop.order.items) n asks) (sym told.seen)
+              (subst (λ (commits : List Committed). IsStoppedRun (names_of job) job.programs.items job.events.items number start (order_told commits) (commits_seen (screen_printed screen)) asks) (sym told.order_is)
+              its);
           j = first.j;
           told = seen;
           few = omega (arith, first.few, count);
@@ -274,7 +351,8 @@ module _ (job : Job) (held : List ℕ) (number : ℕ) (store : FlatStore) (write
       | inr un ↦
           let same : length order ≡ length (fine_order job held store) = ap (λ (these : List (ℕ × ℕ)). length these) (left.fine (came-done un) (told.unreached un).0) in
           let some = left.writes (came-done un) in
-          let few = few-writes un in absurd (omega (arith, same, some, few, due))
+          let few = (are-fewer un).fewer in
+          let made = disk.stops.made in absurd (omega (arith, same, some, few, made, due))
     ]
 
 -- a disk that is as it was made has the one image that it was made with

@@ -1,46 +1,55 @@
 -- A disk in memory that stops within one of its writes, and fails at nothing else.
-use Rattle.std.specs.Prelude.{◌≡◌, ℕ, ◌-◌, ◌^◌, ◌<◌, ◌≤◌, Bool, true, false, List, [], ◌∷◌, length, take, Option, None, Some}
+use Rattle.std.specs.Prelude.{◌≡◌, ℕ, ◌+◌, ◌^◌, ◌<◌, ◌≤◌, Bool, true, false, List, [], ◌∷◌, ◌++◌, length, take, count_by, Option, None, Some}
 use Rattle.drills.specs.Below.{disk_faults, disk_first, disk_held, disk_plan, disk_writes, is_disk_starved, MemoryDisk, outcome_of, DiskPlan}
 use Rattle.outside.specs.Bytes.{written}
+use Rattle.outside.specs.Deeds.{Deed, Tore}
+use Rattle.real_files.specs.Deeds.{deed_failed, deed_writes, file_by}
 
--- the bytes held after writes, one after another, each of bytes at an offset
-abbrev pub after_writes : List ℕ → List (ℕ × List ℕ) → List ℕ
-after_writes held [] = held
-after_writes held (write ∷ writes) = after_writes (written held write.0 write.1) writes
+-- What a deed leaves of the bytes before it: a write that failed has left the outcome at the front of its range, cut to its bytes; and any other what it
+-- leaves of a file.
+abbrev pub left_by : (outcome : List ℕ) → Deed → (held : List ℕ) → List ℕ
+left_by outcome (Tore at bytes) held = written held at (take (length bytes) outcome)
+left_by outcome deed held = file_by deed held
 
--- so many writes, each of all its bytes, left these bytes of those that were held first
-pub record WereWritten (first : List ℕ) (count : ℕ) (held : List ℕ) : Type 0 where
-  pub writes : List (ℕ × List ℕ)
-  pub as_many : length writes ≡ count
-  pub left : held ≡ after_writes first writes
+-- the same of these, in order
+abbrev pub left_after : (outcome held : List ℕ) → List Deed → List ℕ
+left_after outcome held [] = held
+left_after outcome held (deed ∷ deeds) = left_after outcome (left_by outcome deed held) deeds
 
--- The writes before the one with this number were of all their bytes; of its own range that one left this outcome at the front, cut to the range, and no
--- other came behind it.
-pub record WereStopped (first : List ℕ) (write : ℕ) (outcome held : List ℕ) : Type 0 where
-  pub before : List ℕ
-  pub whole : WereWritten first (write - 1) before
+-- The write with this number failed, and was the last of what was asked; in front of it nothing failed, and one write fewer was made.
+pub record AreStopped (write : ℕ) (deeds : List Deed) : Type 0 where
+  pub front : List Deed
   pub at : ℕ
-  pub range : ℕ
-  pub left : held ≡ written before at (take range outcome)
+  pub bytes : List ℕ
+  pub deeds_are : deeds ≡ front ++ Tore at bytes ∷ []
+  pub well : count_by deed_failed front ≡ 0
+  pub number : count_by deed_writes front + 1 ≡ write
+
+-- nothing failed, and fewer writes than this number were made
+pub record AreFewer (write : ℕ) (deeds : List Deed) : Type 0 where
+  pub well : count_by deed_failed deeds ≡ 0
+  pub fewer : count_by deed_writes deeds < write
 
 -- the number of the write at which a disk is to stop
 abbrev pub stop_number : Option (ℕ × List ℕ) → ℕ
 stop_number None = 0
 stop_number (Some fuse) = fuse.0
 
--- A disk's plan is to stop within a write, and its bytes and counts keep to that: until it stops only want of memory counts a fault, and its writes are of
--- all their bytes; once it has stopped it stopped there.
-pub record KeepsTo (plan : DiskPlan) (first held : List ℕ) (writes faults : ℕ) (starved : Bool) : Type 0 where
+-- A disk's plan is to stop within a write, and its bytes, its counts and what was asked of it keep to that: until it stops only want of memory counts a fault,
+-- and nothing that was asked failed; once it has stopped it stopped there.
+pub record KeepsTo (plan : DiskPlan) (first held : List ℕ) (writes faults : ℕ) (starved : Bool) (deeds : List Deed) : Type 0 where
   pub fused : plan.fuse ≡ Some (stop_number plan.fuse, outcome_of plan.fuse)
   pub small : stop_number plan.fuse < 2 ^ 32
   pub unrefused : plan.refusals ≡ []
   pub few : plan.stopped ≡ false → plan.tries < stop_number plan.fuse
   pub counted : plan.stopped ≡ false → writes ≡ plan.tries
-  pub whole : plan.stopped ≡ false → ∥ WereWritten first plan.tries held ∥₁
+  pub made : count_by deed_writes deeds ≡ writes
+  pub left : held ≡ left_after (outcome_of plan.fuse) first deeds
+  pub well : plan.stopped ≡ false → count_by deed_failed deeds ≡ 0
   pub calm : plan.stopped ≡ false → starved ≡ false → faults ≡ 0
-  pub stopped : plan.stopped ≡ true → ∥ WereStopped first (stop_number plan.fuse) (outcome_of plan.fuse) held ∥₁
+  pub stopped : plan.stopped ≡ true → ∥ AreStopped (stop_number plan.fuse) deeds ∥₁
   pub failed : plan.stopped ≡ true → 1 ≤ faults
 
--- a disk in memory does
-abbrev pub IsStopping : MemoryDisk → Type 0
-IsStopping disk = KeepsTo (disk_plan disk) (disk_first disk) (disk_held disk) (disk_writes disk) (disk_faults disk) (is_disk_starved disk)
+-- a disk in memory of which this was asked does
+abbrev pub IsStopping : MemoryDisk → List Deed → Type 0
+IsStopping disk deeds = KeepsTo (disk_plan disk) (disk_first disk) (disk_held disk) (disk_writes disk) (disk_faults disk) (is_disk_starved disk) deeds

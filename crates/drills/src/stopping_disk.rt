@@ -1,20 +1,33 @@
 // A disk in memory that stops within one of its writes.
+ghost use Rattle.std.specs.Prelude.{◌≡◌};
+ghost use Rattle.outside.specs.MemoryDisk.{disk_plan};
 ghost use Rattle.drills.specs.Stopping.{IsStopping};
 
 use outside::{Disk, Failed, MemoryDisk};
+use real_files::FileTrace;
 use std::alloc::Global;
 
-/// A disk in memory that stops within one of its writes. Until then it fails for want of memory alone.
+// The kinds of notes of a trace.
+const WROTE: u64 = 0;
+
+const TORE: u64 = 1;
+
+const SYNCED: u64 = 2;
+
+/// A disk in memory that stops within one of its writes. Until then it fails for want of memory alone. It tells what was asked of it.
 #[derive(Drop)]
 pub struct StoppingDisk {
     disk: MemoryDisk,
-    ghost stops: { IsStopping disk },
+    is_stopped: bool,
+    trace: FileTrace,
+    ghost stops: { IsStopping disk trace.deeds },
+    ghost mirrored: { (disk_plan disk).stopped ≡ is_stopped },
 }
 
 impl StoppingDisk {
-    ghost use Rattle.std.specs.Prelude.{◌≡◌, ◌≤◌, ◌↔◌, List, ℕ, Some};
+    ghost use Rattle.std.specs.Prelude.{◌≤◌, ◌↔◌, List, ℕ, [], Some};
     ghost use Rattle.outside.specs.MemoryDisk.{disk_faults, disk_held, disk_images, disk_moment, disk_origin, disk_writes};
-    ghost use Rattle.drills.specs.StoppingDisk.{memory_of};
+    ghost use Rattle.drills.specs.StoppingDisk.{deeds_of, memory_of};
 
     /// A disk that holds these bytes, which are its only crash image, and stops at the write with this number, counted from 1. The
     /// outcome covers the range of that write from its front, and the rest of the range keeps its old bytes.
@@ -26,33 +39,43 @@ impl StoppingDisk {
         ensures writes { disk_writes (memory_of result) ≡ 0 }
         ensures faults { disk_faults (memory_of result) ≡ 0 }
         ensures origin { disk_origin (memory_of result) ≡ record { first = bytes.items; stop = Some (write, outcome.items) } }
+        ensures deeds { deeds_of result ≡ [] }
     {
         let mut disk = MemoryDisk::new(alloc, bytes, Vec::new(alloc));
         disk.fuse(write, outcome);
-        StoppingDisk { disk }
+        StoppingDisk {
+            disk,
+            is_stopped: false,
+            trace: FileTrace::new(),
+        }
     }
 
     /// The disk in memory.
-    pub fn into_memory(self) -> MemoryDisk
-        ensures same { result ≡ memory_of self }
-        ensures stops { IsStopping result }
+    pub fn memory(&self) -> &MemoryDisk
+        ensures { result.now ≡ memory_of self.now }
     {
-        let StoppingDisk { disk } = self;
-        disk
+        &self.disk
+    }
+
+    /// The bytes held.
+    pub fn into_image(self) -> Vec<u8>
+        ensures { result.items ≡ disk_held (memory_of self) }
+    {
+        self.disk.into_image()
     }
 }
 
 impl Disk for StoppingDisk {
-    ghost use Rattle.std.specs.Prelude.{true, None, Some};
+    ghost use Rattle.std.specs.Prelude.{true, Some};
     ghost use Rattle.outside.specs.MemoryDisk.{disk_faults, disk_held, disk_images, disk_moment, disk_origin, disk_writes};
     ghost use Rattle.outside.specs.MemoryDiskLaws.{held_is_left};
-    ghost use Rattle.drills.specs.StoppingDisk.{memory_of};
+    ghost use Rattle.drills.specs.StoppingDisk.{deeds_of, memory_of};
 
     ghost held = { λ stopping. Some (disk_held (memory_of stopping)) };
 
     ghost writes = { λ stopping. Some (disk_writes (memory_of stopping)) };
 
-    ghost deeds = { λ stopping. None };
+    ghost deeds = { λ stopping. Some (deeds_of stopping) };
 
     ghost moment = { λ stopping. disk_moment (memory_of stopping) };
 
@@ -79,10 +102,30 @@ impl Disk for StoppingDisk {
     }
 
     fn write_at(&mut self, at: u64, bytes: &[u8]) -> Result<(), Failed> {
-        self.disk.write_at(at, bytes)
+        let before = self.disk.moment();
+        match self.disk.write_at(at, bytes) {
+            Ok(()) => {
+                self.trace.note(&[WROTE, at], bytes);
+                Ok(())
+            }
+            Err(Failed) => {
+                if self.is_stopped {
+                    return Err(Failed);
+                }
+                // One that found no memory for its record did nothing.
+                if self.disk.moment() == before {
+                    return Err(Failed);
+                }
+                self.is_stopped = true;
+                self.trace.note(&[TORE, at], bytes);
+                Err(Failed)
+            }
+        }
     }
 
     fn sync(&mut self) -> Result<(), Failed> {
-        self.disk.sync()
+        self.disk.sync()?;
+        self.trace.note(&[SYNCED], &[]);
+        Ok(())
     }
 }

@@ -2,7 +2,6 @@
 ghost use Rattle.std.specs.Prelude.{◌≡◌, ◌*◌, ◌≤◌, IfOk};
 ghost use Rattle.drills.specs.Below.{commits_seen, IsReady, IsStanding};
 ghost use Rattle.drills.specs.Drill.{DrillsStop, HasRunCopy, IsTold};
-ghost use Rattle.drills.specs.Stopping.{IsStopping};
 
 use super::job_copy::copy_of;
 use super::stopping_disk::StoppingDisk;
@@ -10,7 +9,7 @@ use call_status::Status;
 use desk::Committed;
 use job_calls::{Ended, try_job};
 use job_text::Job;
-use outside::{Joint, MemoryDisk, MemoryScreen, Outside};
+use outside::{Joint, MemoryScreen, Outside};
 use std::alloc::{AllocError, Global};
 
 /// What a job left on a disk that stops at a write.
@@ -48,7 +47,7 @@ pub fn drill_stop(
     let mut outside = Joint::new(disk, MemoryScreen::new(alloc, Vec::new(alloc)));
     let ended = run_copy(alloc, job, &mut outside)?;
     let (disk, screen) = outside.into_parts();
-    told(ended, disk.into_memory(), &screen)
+    told(ended, disk, &screen)
 }
 
 /// Runs a job, and keeps it.
@@ -60,16 +59,15 @@ fn run_copy<W: Outside>(alloc: Global, job: &Job, outside: &mut W) -> Result<End
 }
 
 /// What a run told, over a disk that is to stop and a screen.
-fn told(ended: Ended, disk: MemoryDisk, screen: &MemoryScreen) -> Result<Stop, AllocError>
-    requires { IsStopping disk }
+fn told(ended: Ended, disk: StoppingDisk, screen: &MemoryScreen) -> Result<Stop, AllocError>
     ensures { IfOk result (IsTold ended disk screen.now) }
 {
-    if disk.starved() || screen.starved() {
+    if disk.memory().starved() || screen.starved() {
         return Err(AllocError);
     }
     match ended.status {
         Status::Done | Status::DiskFault => Ok(Stop {
-            reached: disk.faults() > 0,
+            reached: disk.memory().faults() > 0,
             seen: commits_in(screen.printed()),
             order: ended.order,
             image: disk.into_image(),

@@ -1,20 +1,14 @@
 -- From what the console did on an outside to what it did on the file and the screen behind it.
 use Rattle.std.specs.Prelude.{Bool}
-use Rattle.file_runs.proofs.Common.{◌≡◌, inl, inr, ⊎_elim, ℕ, ◌+◌, ◌≤◌, List, [], ◌∷◌, ◌++◌, append_assoc, Torn, written, length, length-append, take, drop, refl, sym, ◌∙◌, ap, subst, arith, suc, Option, Result, Some, IsSome, unwrap_or, Leaves, AsksAndPuts, OnlyAsks, None, Ghosts, All, cond, count_by, false, IsSure, FlatStore, Stands, stands, begun, IsSerial, Given, call, IsFaultAt, TellsStore, Status, SessionState, report, event_lines, Desk, IsRunOf, run, ReportLine, Failed, held_of, Happened, RanJob, Refused, job_desk, names_of, Deed, Wrote, Tore, Synced, Unsynced, file_images_after, file_images_at, file_images_by, deed_writes, bytes_put, printed_of, marks_of, AreBehind, Hands, IsBehind, IsSeenAt, KeepsFile, LeavesAlways, LeavesAt, LeavesLast, OnlyAsked, RanOnFile, RanOnScreen, FromAnyStore, RunsOnFile, begun_by}
-use Rattle.desk.specs.Asked.{EventAsks}
-use Rattle.desk.specs.Run.{Happening}
-use Rattle.outside.proofs.Runs.{not_after}
-use Rattle.outside.specs.Deeds.{IsCut, Since, SyncedOnce}
-use Rattle.outside.specs.Moments.{IsNotAfter}
+use Rattle.file_runs.proofs.Common.{◌≡◌, inl, inr, ⊎_elim, ℕ, ◌+◌, ◌≤◌, List, [], ◌∷◌, ◌++◌, append_assoc, Torn, written, length, length-append, take, drop, refl, sym, ◌∙◌, ap, subst, arith, suc, Option, Result, Some, IsSome, unwrap_or, Leaves, OnlyAsks, None, Ghosts, false, IsSure, FlatStore, Stands, stands, begun, IsSerial, Given, call, IsFaultAt, TellsStore, Status, SessionState, report, event_lines, Desk, IsRunOf, run, ReportLine, Failed, held_of, Happened, RanJob, Refused, job_desk, names_of, Deed, Tore, Synced, file_images_at, file_images_by, bytes_put, printed_of, marks_of, AreBehind, Hands, IsBehind, IsSeenAt, KeepsFile, LeavesAlways, LeavesAt, LeavesLast, OnlyAsked, RanOnFile, RanOnScreen, FromAnyStore, RunsOnFile, begun_by}
+use Rattle.drills.proofs.AskedLemmas.{opened_asks}
+use Rattle.outside.specs.Deeds.{IsCut, Since}
 use Rattle.outside.specs.Runs.{OnlyOpens, OpensAndPuts}
 use Rattle.real_files.specs.Deeds.{file_after}
-use Rattle.schedule_replay.specs.RunAsks.{happened, OpenedAsks, RunAsks}
-use Rattle.std.proofs.Common.{append-nil}
-use Rattle.file_runs.specs.FileRun.{HappenedAsks, NothingAsked, OpenedWith}
+use Rattle.schedule_replay.specs.RunAsks.{happened, OpenedAsks}
+use Rattle.file_runs.specs.FileRun.{NothingAsked}
 use Rattle.std.proofs.lemmas.List.{append_cancel_left, nil_from_length, take_all}
-use Rattle.std.proofs.lemmas.List.Elements.{All-nil, All-cons}
 use Rattle.outside.proofs.Torn.{torn_by_written, untouched}
-use Rattle.std.proofs.lemmas.List.Sums.{sum_by-cons}
 use Rattle.std.proofs.lemmas.Bool.{cases_lt}
 use Rattle.std.proofs.lemmas.Bool.Decides.{nat_tests}
 use Rattle.outside.specs.Clock.{shown_by, put_start}
@@ -212,28 +206,6 @@ module _ {W : Type 0} (G : Ghosts W) (before after : W) (first : List ℕ) (deed
   pub only_read : OnlyAsks G before after → NothingAsked deeds puts
   only_read asks = (let is : Some deeds ≡ Some [] = sym behind.deeds_are ∙ asks.deeds ∙ behind.undone in cc, unput G before after first puts behind.screen asks.calls.puts)
 
-  -- what was asked behind earlier deeds while these happened
-  happened_asks : (these : List Happening) (start : W) (earlier : List Deed) → IsNotAfter (G.moment before) (G.moment start) → G.deeds start ≡ Some earlier → RunAsks G these start after
-      → (later : List Deed) × (deeds ≡ earlier ++ later) × HappenedAsks first earlier these later
-  happened_asks [] start earlier since told (same, held, later) =
-      let all : Some deeds ≡ Some earlier = sym behind.deeds_are ∙ same ∙ told in
-      let is : deeds ≡ earlier = cc in
-      ([], is ∙ sym (append-nil earlier), refl)
-  happened_asks (one ∷ others) start earlier since told (mid, next, asked, rest) =
-      let here : Since (Some earlier) (G.deeds mid) (EventAsks (held_of G start) one) = subst (λ (those : Option (List Deed)). Since those (G.deeds mid) (EventAsks (held_of G start) one)) told asked in
-      let held : held_of G start ≡ file_after first earlier = ap (λ (those : Option (List ℕ)). unwrap_or those []) (behind.holds start earlier since.origin told) in
-      let more = happened_asks others mid (earlier ++ here.0) (not_after (G.moment before) (G.moment start) (G.moment mid) since next) here.1 rest in (
-        here.0 ++ more.0,
-        more.1 ∙ append_assoc earlier here.0 more.0,
-        (here.0, more.0, refl, subst (λ (bytes : List ℕ). EventAsks bytes one here.0) held here.2, more.2),
-      )
-
-  -- and behind an opening
-  opened_asks : (these : List Happening) → OpenedAsks G these before after → OpenedWith first deeds these
-  opened_asks these (start, since, synced, held, run) =
-      let told : G.deeds start ≡ Some (Synced ∷ []) = subst (λ (those : Option (List Deed)). SyncedOnce those (G.deeds start)) behind.undone synced in
-      happened_asks these start (Synced ∷ []) since told run
-
   -- where nothing was called, nothing was asked
   pub nothing : after ≡ before → (deeds ≡ []) × (puts ≡ [])
   nothing is =
@@ -265,7 +237,7 @@ module _ {W : Type 0} (G : Ghosts W) (before after : W) (first : List ℕ) (deed
       did.ran.lines_are ∙ ap (λ (names : List (List ℕ)). event_lines names programs number taken (desk (held_of G before))) did.named ∙ ap (λ (bytes : List ℕ). event_lines (names_of ran.job) programs number taken (desk bytes)) held in
       record {
         ran = ran_on_screen G before after first puts behind.screen given order status session ran number store stood;
-        asked = opened_asks (happened programs taken (desk first)) (subst (λ (bytes : List ℕ). OpenedAsks G (happened programs taken (desk bytes)) before after) held did.deeds);
+        asked = opened_asks G before after (file_after first) deeds behind.deeds_are behind.holds (happened programs taken (desk first)) behind.undone (subst (λ (bytes : List ℕ). OpenedAsks G (happened programs taken (desk bytes)) before after) held did.deeds);
         crash = leaves_at (IsPrefix acts number store order []) (λ image seen was.
             ⊎_elim
             (λ of_start. start_is_prefix acts number store order image seen (ap stands (behind.screen.left image seen of_start.0) ∙ stood) (subst (λ (those : Option (List ℕ)). AreTold those seen) behind.screen.none of_start.1))

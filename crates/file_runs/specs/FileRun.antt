@@ -10,8 +10,7 @@ use Rattle.call_status.specs.Opening.{IsStanding}
 use Rattle.outside.specs.Clock.{shown_by}
 use Rattle.real_files.specs.Shown.{LeftBy}
 use Rattle.real_files.specs.Deeds.{deed_failed, file_after}
-use Rattle.desk.specs.Asked.{EventAsks}
-use Rattle.desk.specs.Run.{Happening}
+use Rattle.drills.specs.Asked.{OpenedWith}
 use Rattle.outside.specs.Deeds.{IsCut}
 use Rattle.schedule_replay.specs.RunAsks.{happened}
 use Rattle.outside.specs.Moments.{Moment}
@@ -54,16 +53,6 @@ pub record OnlyAsked (first : List ℕ) (deeds puts : List Deed) : Type 0 where
 abbrev pub NothingAsked : (deeds puts : List Deed) → Type 0
 NothingAsked deeds puts = (deeds ≡ []) × (puts ≡ [])
 
--- What was asked of a file that gave these bytes, behind earlier deeds, while these happened, in order: each asks by the bytes that the deeds before it left.
-abbrev pub HappenedAsks : (first : List ℕ) (earlier : List Deed) → List Happening → (later : List Deed) → Type 0
-HappenedAsks first earlier [] later = later ≡ []
-HappenedAsks first earlier (one ∷ others) later =
-    (here rest : List Deed) × (later ≡ here ++ rest) × EventAsks (file_after first earlier) one here × HappenedAsks first (earlier ++ here) others rest
-
--- the same of all deeds: one sync opens the store, and behind it stands what happened asks
-abbrev pub OpenedWith : (first : List ℕ) (deeds : List Deed) → List Happening → Type 0
-OpenedWith first deeds these = (later : List Deed) × (deeds ≡ Synced ∷ later) × HappenedAsks first (Synced ∷ []) these later
-
 -- this text was handed to the screen, or a first part of it where the end isn't Done
 abbrev pub Hands : (puts : List Deed) (text : List ℕ) (end : Status) → Type 0
 Hands puts text end = PrintsBy (Some []) (Some (printed_of puts)) text end
@@ -101,7 +90,7 @@ IsCalm deeds starved = (starved ≡ false) × (count_by deed_failed deeds ≡ 0)
 pub record RanOnFile (starved : Bool) (given : Given) (number : ℕ) (store : FlatStore) (first : List ℕ) (deeds puts : List Deed) (order : List (ℕ × ℕ)) (end : Status) : Type 0 where
   pub ran : RanOnScreen given number store first puts order end
   -- one sync was asked of the file, and then what each event asks by what happened at it, in order, and nothing else
-  pub asked : OpenedWith first deeds (happened ran.job.programs.items ran.taken (job_desk ran.job first store))
+  pub asked : OpenedWith (file_after first) deeds (happened ran.job.programs.items ran.taken (job_desk ran.job first store))
   -- the machine may stop after any number of the deeds: each image that these may leave stands for the first commits: those that were seen or one more
   pub crash : LeavesAt first deeds puts (IsPrefix (begun ran.job.programs.items ran.job.events.items) number store order [])
   -- where no call on the file failed, and memory was there for what was written past its end, no event was told otherwise, and the desk is open

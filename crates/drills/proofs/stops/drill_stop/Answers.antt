@@ -1,11 +1,10 @@
-use Rattle.drills.proofs.Lemmas.{◌≡◌, ◌∙◌, true, ap, refl, rules, arith, Some, List, [], ℕ, disk_held, disk_faults, disk_writes, FlatStore, Stands, stands, order_told, IsStop, fine_order, IfOk, IsStoppedRun, IsTold, commits_seen, job_desk, names_of, subst, MemoryDisk, disk_origin, screen_printed, HasLeft, is-reached, one-image, stop-is}
+use Rattle.drills.proofs.Lemmas.{◌≡◌, ◌∙◌, true, ap, refl, rules, arith, Some, List, [], ℕ, disk_held, disk_faults, disk_writes, FlatStore, Stands, stands, IsStop, fine_order, IfOk, IsTold, subst, StoppingDisk, disk_origin, screen_printed, HasLeft, is-reached, one-image, stop-is, Deed, left_after, deeds-left, run-deeds, deeds_of, memory_of}
 use Rattle.std.proofs.lemmas.Result.{IfOk-weaker}
-use Rattle.drills.specs.StoppingDisk.{memory_of}
 use Rattle.drills.proofs.stops.drill_stop.Goals as goal
 
 -- what was left on the disk that was made
 has-left : (c : goal.After-drop-screen-3) (number : ℕ) (store : FlatStore) → stands c.args.image.items ≡ Stands number store
-    → HasLeft c.args.job.now c.args.image.items number store c.args.write c.args.outcome.items c.in_ok-ended.ended (memory_of c.run_copy.new.outside.disk) c.run_copy.new.outside.screen
+    → HasLeft c.args.job.now c.args.image.items number store c.args.write c.args.outcome.items c.in_ok-ended.ended c.run_copy.new.outside.disk c.run_copy.new.outside.screen
 has-left c number store stood =
     let made = memory_of c.new-disk.result in let outside = c.new-outside.result in
     let after = c.run_copy.new.outside in
@@ -22,10 +21,15 @@ has-left c number store stood =
           ap stands (one-image made (memory_of outside.disk) c.args.image.items image left.at same c.new-disk.ensures.moment c.new-disk.ensures.images left.by_now left.is_image) ∙ stood;
     }) in
     record {
+      stood = stood;
       first = left.first (disk_held (memory_of after.disk)) (screen_printed after.screen) refl (ap (λ (bytes : List ℕ). Some bytes) nothing) refl;
-      ran = λ unfailed.
-          let (ran, all) = left.ran (disk_held (memory_of after.disk)) (screen_printed after.screen) refl (ap (λ (bytes : List ℕ). Some bytes) nothing) refl unfailed in
-          (subst (λ (bytes : List ℕ). IsStoppedRun (names_of c.args.job.now) c.args.job.now.programs.items c.args.job.now.events.items number (job_desk c.args.job.now bytes store) (order_told c.in_ok-ended.ended.order.items) (commits_seen (screen_printed after.screen))) held ran, all);
+      ran =
+          run-deeds left c.args.image.items (disk_held (memory_of after.disk)) (screen_printed after.screen) (left_after c.args.outcome.items c.args.image.items) (deeds_of after.disk)
+          (ap (λ (bytes : List ℕ). Some bytes) held) (ap (λ (deeds : List Deed). Some deeds) (ap deeds_of c.new-outside.ensures.disk ∙ c.new-disk.ensures.deeds)) refl
+          (λ w done origin told.
+          let its : deeds_of w.disk ≡ done = cc in
+          ap (λ (bytes : List ℕ). Some bytes) (deeds-left w.disk c.args.image.items c.args.write c.args.outcome.items (origin ∙ ap disk_origin same ∙ c.new-disk.ensures.origin) ∙ ap (left_after c.args.outcome.items c.args.image.items) its))
+          refl (ap (λ (bytes : List ℕ). Some bytes) nothing) refl;
       writes = λ done. let (count, same, due) = left.writes done in let is : count ≡ disk_writes (memory_of after.disk) = cc in omega (arith, none, is, due);
       fine = λ done well. left.fine done (λ rose. omega (arith, calm, well, rose)) ∙ ap (λ (bytes : List ℕ). fine_order c.args.job.now bytes store) held;
       fault = λ failed. let rose = c.in_ok-ended.ensures.disk failed in omega (arith, calm, rose);
@@ -33,9 +37,9 @@ has-left c number store stood =
     }
 
 -- what is told of the disk and the screen that are left
-told-is : (c : goal.After-drop-screen-3) → IfOk c.told.result (IsTold c.in_ok-ended.ended (memory_of c.run_copy.new.outside.disk) c.run_copy.new.outside.screen)
+told-is : (c : goal.After-drop-screen-3) → IfOk c.told.result (IsTold c.in_ok-ended.ended c.run_copy.new.outside.disk c.run_copy.new.outside.screen)
 told-is c =
-    subst (λ (disk : MemoryDisk). IfOk c.told.result (IsTold c.in_ok-ended.ended disk c.run_copy.new.outside.screen)) (c.into_memory.ensures.same ∙ ap memory_of c.into_parts-disk.ensures.disk)
+    subst (λ (disk : StoppingDisk). IfOk c.told.result (IsTold c.in_ok-ended.ended disk c.run_copy.new.outside.screen)) c.into_parts-disk.ensures.disk
     (rw c.into_parts-disk.ensures.screen at c.told.ensures)
 
 pub returns : goal.returns
@@ -43,9 +47,9 @@ returns c = record {
   stop =
       λ number store stood.
       IfOk-weaker c.told.result _ (IsStop c.args.job.now c.args.image.items number store c.args.write c.args.outcome.items)
-      (stop-is c.args.job.now c.args.image.items number store c.args.write c.args.outcome.items c.in_ok-ended.ended (memory_of c.run_copy.new.outside.disk) c.run_copy.new.outside.screen (has-left c number store stood)) (told-is c);
+      (stop-is c.args.job.now c.args.image.items number store c.args.write c.args.outcome.items c.in_ok-ended.ended c.run_copy.new.outside.disk c.run_copy.new.outside.screen (has-left c number store stood)) (told-is c);
   reached =
       λ number store stood due.
       IfOk-weaker c.told.result _ (λ stop. stop.reached ≡ true)
-      (λ stop told. is-reached c.args.job.now c.args.image.items number store c.args.write c.args.outcome.items c.in_ok-ended.ended (memory_of c.run_copy.new.outside.disk) c.run_copy.new.outside.screen (has-left c number store stood) stop told due) (told-is c);
+      (λ stop told. is-reached c.args.job.now c.args.image.items number store c.args.write c.args.outcome.items c.in_ok-ended.ended c.run_copy.new.outside.disk c.run_copy.new.outside.screen (has-left c number store stood) stop told due) (told-is c);
 }

@@ -1,0 +1,6 @@
+mod Elders
+mod Turns
+mod Sums
+mod Instructed
+mod RoundLemmas
+mod RoundsEnd
