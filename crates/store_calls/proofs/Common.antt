@@ -25,10 +25,13 @@ pub use Rattle.store_format.proofs.Stores.{stands_is}
 pub use Rattle.store_format.specs.Header.{Header, fresh, number_at, page_size_of, total, Field, fields, first_fault, header_of, name_field, segment_fields, segments_of, spare_fields, within}
 pub use Rattle.store_format.specs.Stands.{Damaged, NotAStore, Standing, Stands, standing_if}
 unfoldable pub use Rattle.store_format.specs.Stands.{stands}
-pub use Rattle.store_calls.specs.New.{PutsIn, IsNoEmpty, IsOfWriting, IsStored, IsTornBy, IsWrittenWhole, ImagesTorn, Written, WrittenBy, new_line, IsNoStore, IsOnTheWay, LeavesWhole}
+pub use Rattle.store_format.specs.Asked.{sure_deeds}
+pub use Rattle.store_calls.specs.New.{fill_deeds, image_deeds, PutsIn, IsNoEmpty, IsOfWriting, IsStored, IsTornBy, IsWrittenWhole, ImagesTorn, Written, WrittenBy, new_line, IsNoStore, IsOnTheWay, LeavesWhole}
 pub use Rattle.store_calls.specs.Renewed.{HasOne, IsRenewed, Renewed, RenewedBy, is_version_two, renew_line, renewed_header, renewed_image, store_widened, widened_bytes, widened_segments}
 pub use Rattle.store_calls.specs.Show.{AreBytesRead, HasRange, HasShown, IsInside, PutsBytes, PutsDone, RangeShown, ShownBy, StopsBy, bytes_standing, rows_of}
 pub use Rattle.store_calls.specs.declared.show.Range.{Range}
+pub use Rattle.outside.proofs.DeedLemmas.{carries_err, carries_on, some_more, some_none}
+pub use Rattle.outside.specs.Deeds.{Carries, Deed, Did, DidSome, Synced, Wrote}
 pub use Rattle.outside.proofs.Durable.{leaves_held, told_some}
 pub use Rattle.outside.proofs.Prints.{prints_broken, prints_none, prints_on, prints_same, prints_stop, prints_unput}
 pub use Rattle.call_status.proofs.TextLemmas.{read_whole, text_fails}

@@ -1,6 +1,7 @@
 -- An image without the name of a store is none; what a torn write over the places of one leaves; and what making a store did.
 use Rattle.store_calls.proofs.Common.{◌≡◌, ◌⊎◌, inl, inr, ◌+◌, ◌<◌, ℕ, List, [], length, refl, sym, ◌∙◌, ap, subst, arith, Option, IsSome, IsTrue, Result, Ok, Err, unwrap_or, Ghosts, Failed, Prints, Torn, CallsDisk, FewerLater, OnlyAsks, held_of, elapses-trans, leaves_on, PrintsBytes, PutsTimes, call, Status, IsNoEmpty, IsOfWriting, IsStored, IsTornBy, IsWrittenWhole, ImagesTorn, Written, WrittenBy, nat_tests, IsNoStore, LeavesWhole, ⊎_elim, ◌-◌, ◌≤◌, true, ◌∷◌, ◌++◌, take, drop, length-drop, length-take, nat_eq, not, codes, replicate, slice_index, Some, cases_lt, append-nil, drop-drop, drop_all, take_all, take-append-drop, take-take, written, Field, fields, first_fault, header_of, name_field, number_at, page_size_of, segment_fields, segments_of, spare_fields, within, standing_if, IsOnTheWay, starts_with, suc, cases_Bool, false}
 use Rattle.outside.specs.Moments.{Elapses}
+use Rattle.store_calls.proofs.Common.{Deed, Did, DidSome, image_deeds, some_none}
 use Rattle.outside.proofs.Torn.{untouched}
 use Rattle.call_status.specs.Printed.{put_of, PutsOnce}
 use Rattle.call_status.specs.declared.status.Status.TheVariants as status
@@ -124,13 +125,13 @@ module _ {W : Type 0} (G : Ghosts W) (fewer_later : FewerLater G) (image line : 
   none_held after empty told some = absurd (omega (arith, some, ap length (empty told)))
 
   -- the disk failed
-  pub written_torn : (IsSome (G.held start) → held_of G start ≡ []) → IsTornBy G (length image) start mid → Written G image line (call start mid [] status.DiskFault)
-  written_torn empty left = record { no_order = refl; honest = calls.honest; time = calls.time; crash = torn; whole = whole; calm = λ other. absurd (other refl); full = none_held mid empty; by_status = (calls.quiet.same, left) }
+  pub written_torn : (IsSome (G.held start) → held_of G start ≡ []) → IsTornBy G (length image) start mid → DidSome (G.deeds start) (G.deeds mid) (image_deeds image) → Written G image line (call start mid [] status.DiskFault)
+  written_torn empty left cut = record { no_order = refl; honest = calls.honest; time = calls.time; crash = torn; whole = whole; calm = λ other. absurd (other refl); full = none_held mid empty; by_status = (calls.quiet.same, left, cut) }
 
   -- all was written, and the line put
-  module _ (empty : IsSome (G.held start) → held_of G start ≡ []) (written : IsWrittenWhole G image start mid) (calm : G.disk_faults mid ≡ G.disk_faults start) (after : W) where
+  module _ (empty : IsSome (G.held start) → held_of G start ≡ []) (written : IsWrittenWhole G image start mid) (calm : G.disk_faults mid ≡ G.disk_faults start) (did : Did (G.deeds start) (G.deeds mid) (image_deeds image)) (after : W) where
     stored : (result : Result (Unit {0}) Failed) → PrintsBytes G line mid after result → IsStored G image start after
-    stored result puts = grind (arith, nat_tests)
+    stored result puts = grind (arith, nat_tests, subst (λ (those : Option (List Deed)). Did (G.deeds start) those (image_deeds image)) (sym puts.only.deeds) did)
 
     torn-after : (result : Result (Unit {0}) Failed) → PrintsBytes G line mid after result → ImagesTorn G (length image) start after
     torn-after result puts honest told =
@@ -202,7 +203,7 @@ module _ {W : Type 0} (G : Ghosts W) (fewer_later : FewerLater G) (before start 
 
     -- the disk isn't empty, or couldn't be asked
     pub not_written : (now : Status) → IsNoEmpty G before start now → Written G image line (call before start [] now)
-    not_written now why = grind (arith, nat_tests, whole_asked image)
+    not_written now why = grind (arith, nat_tests, whole_asked image, some_none (G.deeds before) (G.deeds start) (image_deeds image) asks.deeds)
 
     -- nothing is written for want of memory
     pub unmade : G.disk_faults start ≡ G.disk_faults before → Written G image line (call before start [] status.NoMemory)

@@ -16,6 +16,7 @@ pub use Rattle.lines.specs.declared.line_geometry.PageSize.TheVariants.{Four, Tw
 pub use Rattle.listing.specs.BytesPut.{PrintsBytes, PutsTimes}
 pub use Rattle.outside.specs.Bytes.{AreTold, bytes_at, Prints, Torn, written}
 pub use Rattle.outside.specs.Causes.{FailsOnlyCounted, Rose}
+pub use Rattle.outside.specs.Deeds.{Carries, Deed, Did, DidSome}
 pub use Rattle.outside.specs.Durable.{IsSure}
 pub use Rattle.outside.specs.Runs.{AsksAndPuts, CallsDisk, held_of, Leaves, OnlyAsks, OnlyOpens, OpensAndPuts}
 pub use Rattle.outside.specs.declared.failed.Failed.{Failed}
@@ -27,5 +28,6 @@ pub use Rattle.serial_audit.specs.declared.auditing.KeptStore.{KeptStore}
 pub use Rattle.serial_audit.specs.declared.bundle.Bundle.{Bundle}
 pub use Rattle.store.specs.Appended.{IsUsable}
 pub use Rattle.store.specs.Shows.{IsShown}
+pub use Rattle.store_format.specs.Asked.{sure_deeds}
 pub use Rattle.store_format.specs.Header.{fresh, front, Header, total}
 pub use Rattle.store_format.specs.Stands.{Damaged, NotAStore, Standing, Stands, stands}

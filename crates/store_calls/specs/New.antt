@@ -1,12 +1,19 @@
 -- What making a store did.
-use Rattle.std.specs.Prelude.{◌≡◌, ◌≢◌, ◌⊎◌, ℕ, ◌+◌, ◌<◌, ◌≤◌, List, [], ◌++◌, codes, decimal, length, take, OnOk, Some, IsSome, IsTrue, Result}
-use Rattle.store_calls.specs.Below.{Called, CallsDisk, Failed, FailsOnlyCounted, FaultsBy, fresh, Ghosts, Header, held_of, IsSure, Leaves, NotAStore, OnlyAsks, option_map, PrintsBy, PrintsBytes, PutsOnce, PutsTimes, Rose, stands, Status, Torn, total, written}
+use Rattle.std.specs.Prelude.{◌≡◌, ◌≢◌, ◌⊎◌, ℕ, ◌+◌, ◌<◌, ◌≤◌, List, [], ◌++◌, codes, decimal, length, take, drop, replicate, OnOk, Some, IsSome, IsTrue, Result}
+use Rattle.store_calls.specs.Below.{Called, CallsDisk, Carries, Deed, Did, DidSome, Failed, FailsOnlyCounted, FaultsBy, fresh, Ghosts, Header, held_of, IsSure, Leaves, NotAStore, OnlyAsks, option_map, PrintsBy, PrintsBytes, PutsOnce, PutsTimes, Rose, stands, Status, sure_deeds, Torn, total, written}
 use Rattle.outside.specs.Moments.{Elapses}
 use Rattle.call_status.specs.declared.status.Status.TheVariants as status
 
 -- the line of a new store: how many bytes it has
 abbrev pub new_line : Header → List ℕ
 new_line header = codes "new " ++ decimal (total header) ++ codes "\n"
+
+-- an image behind the place of its name, and then its name; and in front of both zeros in that place: each write made sure before the next
+abbrev pub fill_deeds : (image : List ℕ) → List Deed
+fill_deeds image = sure_deeds 8 (drop 8 image) ++ sure_deeds 0 (take 8 image)
+
+abbrev pub image_deeds : (image : List ℕ) → List Deed
+image_deeds image = sure_deeds 0 (replicate 8 0) ++ fill_deeds image
 
 -- bytes are put by so many puts, or where one failed a prefix of them
 pub record PutsIn {W : Type 0} (G : Ghosts W) (bytes : List ℕ) (count : ℕ) (old new : W) (result : Result (Unit {0}) Failed) : Type 0 where
@@ -24,12 +31,13 @@ pub record IsWrittenWhole {W : Type 0} (G : Ghosts W) (bytes : List ℕ) (old ne
   pub sure : IsTrue (G.is_honest old) → IsSome (G.held old) → IsSure G new
   pub writes : G.writes new ≡ option_map (λ count. count + 3) (G.writes old)
 
--- The bytes are this image, where they are told, and sure where the disk is honest too; three writes succeeded on an empty disk.
+-- The bytes are this image, where they are told, and sure where the disk is honest too; its three writes and three syncs succeeded on an empty disk, and nothing else was asked.
 pub record IsStored {W : Type 0} (G : Ghosts W) (image : List ℕ) (before after : W) : Type 0 where
   pub empty : IsSome (G.held before) → held_of G before ≡ []
   pub held : IsSome (G.held before) → G.held after ≡ Some image
   pub sure : IsTrue (G.is_honest before) → IsSome (G.held before) → IsSure G after
   pub writes : G.writes after ≡ option_map (λ count. count + 3) (G.writes before)
+  pub deeds : Did (G.deeds before) (G.deeds after) (image_deeds image)
 
 -- a disk that tells its bytes holds others now at most among so many from an offset on, or from the front
 abbrev pub IsTornAt : {W : Type 0} → Ghosts W → (at count : ℕ) → W → W → Type 0
@@ -84,6 +92,7 @@ pub record WritesImage {W : Type 0} (G : Ghosts W) (image : List ℕ) (before af
   pub calls : CallsDisk G before after
   pub cause : FailsOnlyCounted (G.disk_faults before) (G.disk_faults after) result
   pub done : OnOk result (IsWrittenWhole G image before after)
+  pub deeds : Carries (G.deeds before) (G.deeds after) (image_deeds image) result
   pub torn : IsTornBy G (length image) before after
   pub crash : ImagesTorn G (length image) before after
   pub whole : LeavesWhole G image before after
@@ -93,6 +102,7 @@ pub record FillsImage {W : Type 0} (G : Ghosts W) (image : List ℕ) (before aft
   pub calls : CallsDisk G before after
   pub cause : FailsOnlyCounted (G.disk_faults before) (G.disk_faults after) result
   pub done : OnOk result (IsImageFilled G image before after)
+  pub deeds : Carries (G.deeds before) (G.deeds after) (fill_deeds image) result
   pub told : IsSome (G.held before) → IsSome (G.held after) × (length (held_of G after) ≤ length image)
   pub left : IsSure G before → Leaves G (λ left seen. IsOnTheWay image left) before after
 
@@ -101,6 +111,7 @@ pub record WritesNew {W : Type 0} (G : Ghosts W) (at : ℕ) (bytes : List ℕ) (
   pub calls : CallsDisk G before after
   pub cause : FailsOnlyCounted (G.disk_faults before) (G.disk_faults after) result
   pub done : OnOk result (IsPutDown G at bytes before after)
+  pub deeds : Carries (G.deeds before) (G.deeds after) (sure_deeds at bytes) result
   pub untold : IsSome (G.held after) → IsSome (G.held before)
   pub torn : IsTornAt G at (length bytes) before after
   pub crash : LeavesTornAt G at (length bytes) before after
@@ -109,7 +120,7 @@ pub record WritesNew {W : Type 0} (G : Ghosts W) (at : ℕ) (bytes : List ℕ) (
 abbrev pub WrittenBy : {W : Type 0} → Ghosts W → (image line : List ℕ) → W → W → Status → Type 0
 WrittenBy G image line before after status.Done = IsStored G image before after × PrintsBy (G.printed before) (G.printed after) line status.Done × PutsOnce G before after
 WrittenBy G image line before after status.PutFault = IsStored G image before after × PrintsBy (G.printed before) (G.printed after) line status.PutFault
-WrittenBy G image line before after status.DiskFault = (G.printed after ≡ G.printed before) × IsTornBy G (length image) before after
+WrittenBy G image line before after status.DiskFault = (G.printed after ≡ G.printed before) × IsTornBy G (length image) before after × DidSome (G.deeds before) (G.deeds after) (image_deeds image)
 WrittenBy G image line before after status.Exists = OnlyAsks G before after × (IsSome (G.held before) → 0 < length (held_of G before))
 WrittenBy G image line before after status.NoMemory = OnlyAsks G before after
 WrittenBy G image line before after _ = ⊥

@@ -1,4 +1,4 @@
-use Rattle.store_calls.proofs.Common.{calls_on, rules}
+use Rattle.store_calls.proofs.Common.{arith, calls_on, carries_err, common_steps, rules, carries_on, Did, DidSome, some_more, sure_deeds}
 use Rattle.store_calls.proofs.Lemmas.{◌≡◌, ◌++◌, ◌∙◌, ◌+◌, ◌-◌, [], List, ℕ, Some, sym, refl, ap, subst, length, take, drop, replicate, unwrap_or, IsTrue, IsSome, Torn, Option, held_of, leaves_on, option_map, leaves_held, written, IsOnTheWay, name_on_the_way, put_name, put_tail, tail_is, tail_on_the_way, on_ok_weaker, one_and}
 use Rattle.store_calls.proofs.written.fill.Given as given
 use Rattle.store_calls.proofs.written.fill.Goals as goal
@@ -8,6 +8,10 @@ returns-in_err-write_sure g c = record {
   calls = search rules;
   cause = search rules;
   done = search rules;
+  deeds =
+      let G = g.W.Outside in let image = c.args.image.now in let old = G.deeds c.args.outside.now in let mid = G.deeds c.write_sure.new.outside in
+      carries_err old mid (sure_deeds 8 (drop 8 image) ++ sure_deeds 0 (take 8 image)) c.from_residual.result (grind (arith, common_steps))
+      (some_more old mid (sure_deeds 8 (drop 8 image)) (sure_deeds 0 (take 8 image)) (subst (λ (tail : List ℕ). DidSome old mid (sure_deeds 8 tail)) (tail_is image) c.in_err-write_sure.ensures.deeds));
   told = search rules;
   left = λ sure left seen was.
       let G = g.W.Outside in let image = c.args.image.now in
@@ -51,6 +55,10 @@ returns g c = record {
         writes = second.writes ∙ ap (option_map (λ n. n + 1)) c.in_ok-write_sure.ensures.done.writes ∙ one_and 1 _;
       })
       c.write_sure-2.ensures.done;
+  deeds =
+      let G = g.W.Outside in let image = c.args.image.now in let old = G.deeds c.args.outside.now in let mid = G.deeds c.write_sure.new.outside in
+      carries_on old mid (G.deeds c.write_sure-2.new.outside) (sure_deeds 8 (drop 8 image)) (sure_deeds 0 (take 8 image)) c.write_sure-2.result
+      (subst (λ (tail : List ℕ). Did old mid (sure_deeds 8 tail)) (tail_is image) c.in_ok-write_sure.ensures.deeds) c.write_sure-2.ensures.deeds;
   left = λ sure.
       let G = g.W.Outside in let image = c.args.image.now in let mid = c.write_sure.new.outside in
       let mid-sure = c.in_ok-write_sure.ensures.done.sure sure.honest sure.told in

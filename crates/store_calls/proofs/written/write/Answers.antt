@@ -1,4 +1,4 @@
-use Rattle.store_calls.proofs.Common.{calls_on, rules}
+use Rattle.store_calls.proofs.Common.{arith, calls_on, carries_err, common_steps, image_deeds, rules, carries_on, fill_deeds, some_more, sure_deeds}
 use Rattle.store_calls.proofs.Lemmas.{◌≡◌, ◌⊎◌, ◌∙◌, ◌+◌, [], inl, List, ℕ, Some, sym, refl, ap, subst, length, replicate, unwrap_or, IsTrue, IsSome, Torn, Option, held_of, leaves_on, option_map, told_some, written, IsNoStore, long_enough, short, torn_empty, torn_short, torn_wider, on_ok_weaker, one_and}
 use Rattle.store_calls.proofs.written.write.Given as given
 use Rattle.store_calls.proofs.written.write.Goals as goal
@@ -14,6 +14,9 @@ returns-in_err-write_sure g c = record {
   calls = search rules;
   cause = search rules;
   done = search rules;
+  deeds =
+      let old = g.W.Outside.deeds c.args.outside.now in let mid = g.W.Outside.deeds c.write_sure.new.outside in
+      carries_err old mid (image_deeds c.args.image.now) c.from_residual.result (grind (arith, common_steps)) (some_more old mid (sure_deeds 0 (replicate 8 0)) (fill_deeds c.args.image.now) c.in_err-write_sure.ensures.deeds);
   torn = λ told.
       let image = c.args.image.now in let (there, torn) = c.in_err-write_sure.ensures.torn told in
       (there, torn_wider (length image) _ _ (long_enough image c.requires.named) torn);
@@ -44,6 +47,9 @@ returns g c = record {
         writes = filled.writes ∙ ap (option_map (λ n. n + 2)) c.in_ok-write_sure.ensures.done.writes ∙ one_and 2 _;
       })
       c.fill.ensures.done;
+  deeds =
+      carries_on (g.W.Outside.deeds c.args.outside.now) (g.W.Outside.deeds c.write_sure.new.outside) (g.W.Outside.deeds c.fill.new.outside) (sure_deeds 0 (replicate 8 0)) (fill_deeds c.args.image.now) c.fill.result
+      c.in_ok-write_sure.ensures.deeds c.fill.ensures.deeds;
   torn = λ told.
       let G = g.W.Outside in let image = c.args.image.now in
       let (there, few) = c.fill.ensures.told (mid-told g c told) in

@@ -1,12 +1,24 @@
-use Rattle.store_calls.proofs.Common.{arith, asks_one, calls_on, common_steps, rules, List, ℕ, length, Torn, leaves_same, still_told}
+use Rattle.store_calls.proofs.Common.{arith, asks_one, calls_on, common_steps, rules, List, ℕ, length, Torn, leaves_same, still_told, carries_on, some_more, [], ◌∷◌, Synced, Wrote}
 use Rattle.outside.specs.Deeds.{SyncsBy}
 use Rattle.store_calls.proofs.written.write_sure.Goals as goal
+
+pub returns-in_err-write_at : goal.returns-in_err-write_at
+returns-in_err-write_at g c = record {
+  calls = search rules;
+  cause = search rules;
+  done = search rules;
+  deeds = grind (arith, common_steps, some_more (g.W.Outside.deeds c.args.outside.now) (g.W.Outside.deeds c.write_at.new.self) (Wrote c.args.at c.args.bytes.now ∷ []) (Synced ∷ []) c.in_err-write_at.ensures.deeds);
+  untold = search rules;
+  torn = search rules;
+  crash = search rules;
+}
 
 pub returns : goal.returns
 returns g c = record {
   calls = calls_on g.W.Outside g.met.W.Outside.fewer_later c.args.outside.now c.write_at.new.self c.sync.new.self c.write_at.ensures.call.time c.sync.ensures.asks.call.time (grind (arith, common_steps)) (asks_one g.W.Outside {D = SyncsBy c.sync.result} c.write_at.new.self c.sync.new.self c.sync.ensures.asks c.sync.result c.sync.ensures.counts c.sync.ensures.deeds).calls;
   cause = search rules;
   done = search rules;
+  deeds = carries_on (g.W.Outside.deeds c.args.outside.now) (g.W.Outside.deeds c.write_at.new.self) (g.W.Outside.deeds c.sync.new.self) (Wrote c.args.at c.args.bytes.now ∷ []) (Synced ∷ []) c.sync.result c.in_ok-write_at.ensures.deeds c.sync.ensures.deeds;
   untold = search rules;
   torn = grind (arith, common_steps);
   crash = λ honest told.
