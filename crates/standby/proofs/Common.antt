@@ -33,6 +33,8 @@ pub use Rattle.text_line.proofs.Bytes.{each_byte, empty_is, some_is}
 pub use Rattle.text_line.proofs.Words.{IsWord, number_word, same_number, word_cut}
 pub use Rattle.standby.specs.State.{bank_begun, bank_behind, bank_with, IsFirstLong, IsLongAt, behind, due, ship_laid, laid_by, IsTextNumber, AllFit}
 pub use Rattle.standby.specs.Followed.{StandWhole, BreaksAt, EndsWith, Follows, IsAlike, IsAtNumber, FollowStopped, FollowKeeps, OnlyGoesOn, SoFar, broken, followed_text, kept_text, well, IsBegun, IsFitting, IsLeftBetween, Steps, followed_of, over, put_result, FoundOf}
+pub use Rattle.outside.specs.Deeds.{Deed, Since, SyncedOnce}
+pub use Rattle.standby.specs.FollowAsked.{FailedAsks, OpenedFor, RecordAsks, RecordsAsked, RecordsStopped, StepAsks}
 pub use Rattle.standby.specs.TextPut.{PutsAtOnce, SeesPart}
 pub use Rattle.standby.specs.Read.{AreWhole, IsTextInTwo, IsFirstBad, AreFirstLines, IsReadFault, Tail, feeds}
 pub use Rattle.standby.specs.Shipped.{HasBytes, ShipPrintsBy, shipped}

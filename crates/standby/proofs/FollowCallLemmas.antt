@@ -1,5 +1,5 @@
 -- A call over an opening that follows a text.
-use Rattle.standby.proofs.Common.{nat_tests, ◌≡◌, inl, inr, ℕ, ◌+◌, ◌-◌, ◌^◌, ◌<◌, ◌≤◌, List, [], ◌++◌, length, refl, sym, ◌∙◌, ap, subst, arith, IsSome, IsTrue, ◌⊎◌, Option, Result, unwrap_or, take_all, length-drop, Ghosts, Prints, FewerLater, Leaves, OnlyOpens, held_of, leaves_on, OpenFault, IsStoreOpenFault, StoreView, store_number, Shows, TracksStore, IsTextNumber, behind, due, laid_by, ShipContent, ShipLine, later, call, status_of_open, Status, FlatStore, Elapses, prints_on, prints_same, prints_unput, BankView, shown_stands, bank_behind, Follows, IsAtNumber, broken, followed_text, kept_text, well, Followed, Stands, stands, Done, DiskFault, PutFault}
+use Rattle.standby.proofs.Common.{OpenedFor, RecordsAsked, RecordsStopped, SyncedOnce, nat_tests, ◌≡◌, inl, inr, ℕ, ◌+◌, ◌-◌, ◌^◌, ◌<◌, ◌≤◌, List, [], ◌++◌, length, refl, sym, ◌∙◌, ap, subst, arith, IsSome, IsTrue, ◌⊎◌, Option, Result, unwrap_or, take_all, length-drop, Ghosts, Prints, FewerLater, Leaves, OnlyOpens, held_of, leaves_on, OpenFault, IsStoreOpenFault, StoreView, store_number, Shows, TracksStore, IsTextNumber, behind, due, laid_by, ShipContent, ShipLine, later, call, status_of_open, Status, FlatStore, Elapses, prints_on, prints_same, prints_unput, BankView, shown_stands, bank_behind, Follows, IsAtNumber, broken, followed_text, kept_text, well, Followed, Stands, stands, Done, DiskFault, PutFault}
 use Rattle.standby.proofs.PutLemmas.{PrintedNow}
 use Rattle.store_format.proofs.Sound.{stood_header}
 use Rattle.standby.proofs.TellLemmas.{told_front}
@@ -46,7 +46,11 @@ module _ {W : Type 0} (G : Ghosts W) (fewer_later : FewerLater G) (printed_now :
       by _ why = grind (arith, nat_tests)
 
   module _ (durable kept : StoreView) (shows : IsSome (G.held before) → Shows (held_of G before) durable) (tracks : IsTrue (G.is_honest before) → IsSome (G.held before) → TracksStore G durable mid)
-      (after : W) (time : Elapses G.moment G.left_since mid after) where
+      (opened : SyncedOnce (G.deeds before) (G.deeds mid)) (after : W) (time : Elapses G.moment G.left_since mid after) where
+    -- what was asked behind the opening
+    opened_for : (Asked : W → W → Type 0) → Asked mid after → OpenedFor G Asked before after
+    opened_for Asked asked = (mid, asks.calls.time.later, opened, asks.held, asked)
+
     -- what was followed from the opened store
     abbrev Goes : Followed → Type 0
     Goes how = (store : FlatStore) → TracksStore G durable mid → stands (held_of G mid) ≡ Stands (store_number durable) store → Follows G content.line_bytes (store_number durable) store (due content (store_number durable)) kept mid after how
@@ -99,6 +103,7 @@ module _ {W : Type 0} (G : Ghosts W) (fewer_later : FewerLater G) (printed_now :
                 ∙ ap (λ (these : List (List ShipLine)). Stands (later number (length records)) (laid_by content.line_bytes store these)) (sym (take_all (length records) records (omega arith))),
             last_is content number start (stood_header (held_of G before) number store at.stood).2 among,
             record { store = durable; was = shows at.told; now = subst (λ (store : StoreView). Shows (held_of G after) store) (kept_is header_is (bank_behind durable.bank records) bank_is) follows.ends.0.tracks.shows },
+            opened_for (RecordsAsked G (length records)) follows.ends.3,
           );
         })
 
@@ -108,7 +113,7 @@ module _ {W : Type 0} (G : Ghosts W) (fewer_later : FewerLater G) (printed_now :
         record {
           crash = crash_since PutFault goes store at;
           printed = printed_since (followed_text (store_number durable) (length (due content (store_number durable)))) broken follows.ends.1;
-          ends = (follows.ends.0.count, follows.ends.0.few, follows.ends.0.tracks.sure, follows.ends.0.stood);
+          ends = (follows.ends.0.count, follows.ends.0.few, follows.ends.0.tracks.sure, follows.ends.0.stood, opened_for (RecordsAsked G follows.ends.0.count) follows.ends.2);
         })
 
     pub followed_disk : Goes DiskFault → FollowsOn G content before after status.DiskFault
@@ -118,5 +123,5 @@ module _ {W : Type 0} (G : Ghosts W) (fewer_later : FewerLater G) (printed_now :
         record {
           crash = crash_since DiskFault goes store at;
           printed = prints_some (G.printed before) (G.printed after) (store_number durable) stops.0.count (length (due content (store_number durable))) stops.1 told;
-          ends = inl (record { count = stops.0.count; printed = told; left = stops.0.left }, stops.1);
+          ends = inl (record { count = stops.0.count; printed = told; left = stops.0.left }, stops.1, opened_for (RecordsStopped G stops.0.count) stops.2);
         })

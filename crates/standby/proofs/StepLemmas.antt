@@ -1,5 +1,5 @@
 -- One record that is kept and told.
-use Rattle.standby.proofs.Common.{◌≡◌, ℕ, ◌*◌, List, [], ◌∷◌, refl, ◌∙◌, ap, subst, append-nil, IfSome_then, FlatStore, line_bytes, PageSize, RecordLine, Standing, Stands, stands, one_more, Failed, Ghosts, IsSure, CallsDisk, FewerLater, Leaves, held_of, begun_of, IsEither, StoreView, with_begun, Shows, TracksStore, PutsAtOnce, ship_laid, well, broken, IsLeftBetween, Steps, over, put_result, Followed, DiskFault, PutFault, ShipLine, next, kept_line, told, Result, Ok, Err, OnErr, OnOk, nat_tests, arith, shown_store, shows_begun}
+use Rattle.standby.proofs.Common.{Deed, FailedAsks, Option, RecordAsks, Since, ◌≡◌, sym, ℕ, ◌*◌, List, [], ◌∷◌, refl, ◌∙◌, ap, subst, append-nil, IfSome_then, FlatStore, line_bytes, PageSize, RecordLine, Standing, Stands, stands, one_more, Failed, Ghosts, IsSure, CallsDisk, FewerLater, Leaves, held_of, begun_of, IsEither, StoreView, with_begun, Shows, TracksStore, PutsAtOnce, ship_laid, well, broken, IsLeftBetween, Steps, over, put_result, Followed, DiskFault, PutFault, ShipLine, next, kept_line, told, Result, Ok, Err, OnErr, OnOk, nat_tests, arith, shown_store, shows_begun}
 use Rattle.lines.specs.Overlay.{overlaid}
 use Rattle.store_format.proofs.Stores.{stands_is}
 use Rattle.store_format.specs.Stands as format
@@ -39,23 +39,27 @@ module _ {W : Type 0} (G : Ghosts W) (fewer_later : FewerLater G) (printed_now :
       → Leaves G Left before after
   in_put after result sure more puts = grind (arith, nat_tests, in_disk, image_is)
 
+  -- a put asks nothing of the disk
+  since_put : (after : W) → G.deeds after ≡ G.deeds mid → Since (G.deeds before) (G.deeds mid) (RecordAsks (held_of G before)) → Since (G.deeds before) (G.deeds after) (RecordAsks (held_of G before))
+  since_put after same = subst (λ (those : Option (List Deed)). Since (G.deeds before) those (RecordAsks (held_of G before))) (sym same)
+
   -- the disk failed
-  pub step_unkept : (durable : StoreView) → Steps G bytes number store lines durable before mid (Err DiskFault)
-  step_unkept durable = record { crash = in_disk; ends = calls.quiet.same }
+  pub step_unkept : Since (G.deeds before) (G.deeds mid) (FailedAsks (held_of G before)) → (durable : StoreView) → Steps G bytes number store lines durable before mid (Err DiskFault)
+  step_unkept asked durable = record { crash = in_disk; ends = calls.quiet.same; deeds = asked }
 
   -- the record is kept, and its line is put or not
-  pub step_kept : (durable : StoreView) (after : W) (line : List ℕ) (result : Result (Unit {0}) Followed) → TracksStore G durable mid → stands (held_of G mid) ≡ one_more begun (stands (held_of G before)) → line ≡ kept_line (next number)
+  pub step_kept : Since (G.deeds before) (G.deeds mid) (RecordAsks (held_of G before)) → (durable : StoreView) (after : W) (line : List ℕ) (result : Result (Unit {0}) Followed) → TracksStore G durable mid → stands (held_of G mid) ≡ one_more begun (stands (held_of G before)) → line ≡ kept_line (next number)
       → OnErr result (result ≡ Err PutFault) → PutsAtOnce G line mid after (put_result result) → Steps G bytes number store lines durable before after result
-  step_kept durable after line (Ok done) tracks more is only puts =
+  step_kept asked durable after line (Ok done) tracks more is only puts =
       let kept = subst (λ (these : List ℕ). PutsAtOnce {T = Unit {0}} G these mid after well) is puts in
       let stands_more = more ∙ one_over begun lines (stands (held_of G before)) number bytes store sized same stood in
       let sure = sure_puts G printed_now fewer_later (kept_line (next number)) mid after well kept tracks.sure in
-      grind (arith, nat_tests, in_put after well tracks.sure stands_more kept, sure, tracks.shows, stands_more, kept.printed, kept.once.done, calls.quiet.same, calls.puts)
-  step_kept durable after line (Err why) tracks more is only puts =
+      grind (arith, nat_tests, in_put after well tracks.sure stands_more kept, sure, tracks.shows, stands_more, kept.printed, kept.once.done, calls.quiet.same, calls.puts, since_put after kept.only.deeds asked)
+  step_kept asked durable after line (Err why) tracks more is only puts =
       let kept = subst (λ (these : List ℕ). PutsAtOnce {T = Unit {0}} G these mid after broken) is puts in
       let stands_more = more ∙ one_over begun lines (stands (held_of G before)) number bytes store sized same stood in
       let sure = sure_puts G printed_now fewer_later (kept_line (next number)) mid after broken kept tracks.sure in
-      grind (arith, nat_tests, in_put after broken tracks.sure stands_more kept, sure, tracks.shows, stands_more, kept.printed, calls.quiet.same, only)
+      grind (arith, nat_tests, in_put after broken tracks.sure stands_more kept, sure, tracks.shows, stands_more, kept.printed, calls.quiet.same, only, since_put after kept.only.deeds asked)
 
 -- what a commit may leave, by the record that is begun
 pub either_begun : {W : Type 0} (G : Ghosts W) (store now : StoreView) (begun : List RecordLine) (held : List ℕ) (before mid : W) → now ≡ with_begun store begun → Leaves G (IsEither (begun_of now.bank) held) before mid → Leaves G (IsEither begun held) before mid

@@ -1,6 +1,9 @@
 -- The lines that tell of records, and records that are kept and told, one after another.
 use Rattle.standby.proofs.Common.{nat_tests, ◌≡◌, inl, inr, ℕ, zero, suc, ◌+◌, ◌-◌, ◌<◌, ◌≤◌, List, [], ◌∷◌, ◌++◌, length, take, get_or, min, Bool, nat_le, refl, if◌then◌else◌, sym, ◌∙◌, ap, arith, append_assoc, append-nil, length-append, IfSome_then, take_more, take-append-le, take_min, fold-append, FlatStore, Stands, stands, Prints, kept_text, followed_text, StandWhole, IsAtNumber, well, SeesPart, ship_laid, laid_by, IsLeftBetween, over, ShipLine, next, later, closing_line, kept_line, codes, decimal, Option, IfSome, take_all, take-append-add, take-append_seam, ⊎_elim, subst, Result, Ok, Err, OnErr, Failed, Ghosts, FewerLater, Leaves, held_of, told_is, prints_none, prints_on, prints_same, prints_stop, leaves_on, StoreView, TracksStore, BreaksAt, EndsWith, FollowStopped, Follows, FollowKeeps, SoFar, broken, PutsAtOnce, Steps, followed_of, put_result, Followed, Done, DiskFault, PutFault, Elapses, FoundOf, Header, ShipContent}
-use Rattle.standby.proofs.PutLemmas.{on_printed, PrintedNow, image_is, sure_puts, told_on}
+use Rattle.outside.proofs.Runs.{not_after}
+use Rattle.outside.specs.Moments.{IsNotAfter}
+use Rattle.standby.proofs.Common.{Deed, RecordAsks, RecordsAsked, Since}
+use Rattle.standby.proofs.PutLemmas.{goes_none, on_printed, PrintedNow, image_is, sure_puts, told_on}
 
 -- a line has bytes
 line_some : (number : ℕ) → 0 < length (kept_line number)
@@ -133,6 +136,12 @@ module _ (bytes number : ℕ) (store : FlatStore) (records : List (List ShipLine
       }
 
 module _ {W : Type 0} (G : Ghosts W) (fewer_later : FewerLater G) (printed_now : PrintedNow G) (bytes number : ℕ) (store : FlatStore) (records : List (List ShipLine)) where
+  -- the records that were asked stay so where nothing was asked behind them
+  asked_later : (count : ℕ) (before mid after : W) → RecordsAsked G count before mid → G.deeds after ≡ G.deeds mid → G.held after ≡ G.held mid → IsNotAfter (G.moment mid) (G.moment after) → RecordsAsked G count before after
+  asked_later zero before mid after (same_deeds, same_held, later) deeds held last = (deeds ∙ same_deeds, held ∙ same_held, not_after (G.moment before) (G.moment mid) (G.moment after) later last)
+  asked_later (suc count) before mid after (between, asked, next, since) deeds held last =
+      (between, asked, not_after (G.moment between) (G.moment mid) (G.moment after) next last, subst (λ (those : Option (List Deed)). Since (G.deeds between) those (RecordAsks (held_of G between))) (sym deeds) since)
+
   -- none yet
   pub so_far_none : (durable : StoreView) (now : W) → later number 0 ≡ number → TracksStore G durable now → stands (held_of G now) ≡ Stands number store → SoFar G bytes number store records 0 durable now now
   so_far_none durable now number_is tracks stood =
@@ -145,6 +154,7 @@ module _ {W : Type 0} (G : Ghosts W) (fewer_later : FewerLater G) (printed_now :
         stood = here;
         printed = prints_none (G.printed now) tt;
         times = λ some. omega arith;
+        deeds = (refl, refl, (goes_none G now).time.later);
       }
 
   module _ (i : ℕ) (lt : i < length records) (old_store : StoreView) (before mid : W) (time : Elapses G.moment G.left_since before mid) (so_far : SoFar G bytes number store records i old_store before mid)
@@ -163,7 +173,8 @@ module _ {W : Type 0} (G : Ghosts W) (fewer_later : FewerLater G) (printed_now :
     so_far_more steps =
         let printed = prints_on (G.printed before) (G.printed mid) (G.printed after) (kept_text number i) (kept_line (next (later number i))) tt well so_far.printed steps.ends.2 in
         let text : kept_text number i ++ kept_line (next (later number i)) ≡ kept_text number (i + 1) = ap (λ (n : ℕ). kept_text number i ++ kept_line n) number_on ∙ ap (kept_text number) (let one_on : suc i ≡ i + 1 = omega arith in one_on) in
-        grind (arith, crash_on (Ok tt) steps, steps.ends, stood_more bytes number store records i (held_of G after) lt steps.ends.1, printed, text, so_far.times, told_on (G.printed before) (G.printed mid) (kept_text number i) so_far.printed)
+        let asked : RecordsAsked G (i + 1) before after = subst (λ (n : ℕ). RecordsAsked G n before after) (let one_on : suc i ≡ i + 1 = omega arith in one_on) (mid, so_far.deeds, on.later, steps.deeds) in
+        grind (arith, asked, crash_on (Ok tt) steps, steps.ends, stood_more bytes number store records i (held_of G after) lt steps.ends.1, printed, text, so_far.times, told_on (G.printed before) (G.printed mid) (kept_text number i) so_far.printed)
 
     -- it isn't
     pub so_far_stopped : (why : Followed) → Steps G bytes (later number i) (laid_by bytes store (take i records)) (get_or records i []) durable mid after (Err why) → FollowKeeps G bytes number store records durable before after why
@@ -176,6 +187,7 @@ module _ {W : Type 0} (G : Ghosts W) (fewer_later : FewerLater G) (printed_now :
           left = λ image seen left. ⊎_elim (λ was. (i, omega arith, omega arith, was.0)) (λ more. (i + 1, omega arith, omega arith, stood_more bytes number store records i image lt more.0)) (steps.crash image seen (fewer_later after (G.moment mid) (G.moment after) image seen on.later left));
         },
         lt,
+        (mid, so_far.deeds, on.later, steps.deeds),
       );
     }
     so_far_stopped PutFault steps = record {
@@ -191,6 +203,7 @@ module _ {W : Type 0} (G : Ghosts W) (fewer_later : FewerLater G) (printed_now :
             prints_same (G.printed before) (G.printed after) ((kept_text number i ++ line) ++ front.0) (kept_text number (length records)) broken whole
                 (prints_stop (G.printed before) (G.printed after) (kept_text number i ++ line) front.0 broken broken refl refl
                 (prints_on (G.printed before) (G.printed mid) (G.printed after) (kept_text number i) line tt broken so_far.printed part)),
+            subst (λ (n : ℕ). RecordsAsked G n before after) (let one_on : suc i ≡ i + 1 = omega arith in one_on) (mid, so_far.deeds, on.later, steps.deeds),
           );
     }
     so_far_stopped _ steps = absurd steps.ends
@@ -199,13 +212,16 @@ module _ {W : Type 0} (G : Ghosts W) (fewer_later : FewerLater G) (printed_now :
   pub so_far_all : (count : ℕ) (durable : StoreView) (before now : W) → count ≡ length records → SoFar G bytes number store records count durable before now → FollowKeeps G bytes number store records durable before now Done
   so_far_all count durable before now all so_far = record {
     crash = so_far.crash;
-    ends = grind (arith, so_far.tracks, so_far.stood, take_all count records (omega (arith, all)), prints_same (G.printed before) (G.printed now) (kept_text number count) (kept_text number (length records)) well (ap (kept_text number) all) so_far.printed, so_far.times);
+    ends = grind (arith, so_far.tracks, so_far.stood, take_all count records (omega (arith, all)), prints_same (G.printed before) (G.printed now) (kept_text number count) (kept_text number (length records)) well (ap (kept_text number) all) so_far.printed, so_far.times, subst (λ (n : ℕ). RecordsAsked G n before now) all so_far.deeds);
   }
 
   -- and the last line is put behind them
   module _ (durable : StoreView) (before mid after : W) (time : Elapses G.moment G.left_since before mid) (keeps : FollowKeeps G bytes number store records durable before mid Done) where
     abbrev last : List ℕ
     last = closing_line (later number (length records))
+
+    end_asked : {T : Type 0} (how : Result T Failed) → PutsAtOnce G last mid after how → RecordsAsked G (length records) before after
+    end_asked how puts = asked_later (length records) before mid after keeps.ends.3 puts.only.deeds puts.only.held puts.only.time.later
 
     end_crash : {T : Type 0} (how : Result T Failed) → PutsAtOnce G last mid after how → Leaves G (IsAtNumber bytes number store records (G.printed before)) before after
     end_crash how puts =
@@ -220,16 +236,28 @@ module _ {W : Type 0} (G : Ghosts W) (fewer_later : FewerLater G) (printed_now :
         let sure = sure_puts G printed_now fewer_later last mid after well put keeps.ends.0.tracks.sure in
         let printed = prints_on (G.printed before) (G.printed mid) (G.printed after) (kept_text number (length records)) last tt well keeps.ends.1 put.printed in
         let told = told_on (G.printed before) (G.printed mid) (kept_text number (length records)) keeps.ends.1 in
-        grind (arith, end_crash well put, sure, keeps.ends.0.tracks.shows, keeps.ends.0.stood, printed, keeps.ends.2, put.once, told)
+        grind (arith, end_crash well put, sure, keeps.ends.0.tracks.shows, keeps.ends.0.stood, printed, keeps.ends.2, put.once, told, end_asked well put)
     ended line (Err why) is only puts =
         let put = subst (λ (these : List ℕ). PutsAtOnce {T = Unit {0}} G these mid after broken) is puts in
         let sure = sure_puts G printed_now fewer_later last mid after broken put keeps.ends.0.tracks.sure in
         let printed = prints_on (G.printed before) (G.printed mid) (G.printed after) (kept_text number (length records)) last tt broken keeps.ends.1 put.printed in
-        grind (arith, nat_tests, end_crash broken put, sure, keeps.ends.0.tracks.shows, keeps.ends.0.stood, printed, take_all (length records) records (omega arith))
+        let is : why ≡ PutFault = cc (only) in
+        let breaks : BreaksAt G bytes number store records durable after = record {
+          count = length records;
+          few = omega arith;
+          tracks = grind (arith, nat_tests, sure, keeps.ends.0.tracks.shows);
+          stood = grind (arith, sure, keeps.ends.0.stood, take_all (length records) records (omega arith));
+        } in
+        subst (λ (how : Followed). Follows G bytes number store records durable before after how) (sym is) (record { crash = end_crash broken put; ends = (breaks, printed, end_asked broken put) })
 
   -- what stopped in a record stops there
   pub stopped_early : (durable : StoreView) (before after : W) (why : Followed) → (why ≡ Done → ⊥) → FollowKeeps G bytes number store records durable before after why → Follows G bytes number store records durable before after why
-  stopped_early durable before after why differs keeps = grind (arith, nat_tests, prints_stop (G.printed before) (G.printed after) (kept_text number (length records)) (closing_line (later number (length records))) broken broken refl refl)
+  stopped_early durable before after Done differs keeps = absurd (differs refl)
+  stopped_early durable before after PutFault differs keeps = record {
+    crash = keeps.crash;
+    ends = (keeps.ends.0, prints_stop (G.printed before) (G.printed after) (kept_text number (length records)) (closing_line (later number (length records))) broken broken refl refl keeps.ends.1, keeps.ends.2);
+  }
+  stopped_early durable before after _ differs keeps = record { crash = keeps.crash; ends = keeps.ends }
 
 -- a fault isn't the end
 pub not_done : (why : Followed) → FollowStopped why → why ≡ Done → ⊥

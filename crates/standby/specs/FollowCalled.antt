@@ -4,6 +4,7 @@ use Rattle.standby.specs.Below.{Called, call, Elapses, FaultsBy, FlatStore, Ghos
 use Rattle.outside.specs.Durable.{IsSure}
 use Rattle.outside.specs.declared.source.Source as source
 use Rattle.standby.specs.State.{bank_behind, AllFit, IsTextNumber, IsTooLong, due, state}
+use Rattle.standby.specs.FollowAsked.{OpenedFor, RecordsAsked, RecordsStopped}
 use Rattle.standby.specs.Followed.{IsAlike, IsAtNumber, StopsAt, followed_text}
 use Rattle.standby.specs.TextPut.{CountsPuts}
 use Rattle.standby.specs.Read.{IsFirstBad}
@@ -21,16 +22,16 @@ pub record KeepsBank {W : Type 0} (G : Ghosts W) (records : List (List ShipLine)
 -- How it ended, by the status. Done: each line was put, by one put, the bytes are sure and stand for the text's last number, and the bank is that of
 -- the commits. PutFault: the bytes are sure and stand for the number of the start or one of the text's behind it. DiskFault: the whole lines of some of
 -- the records are printed, fewer than all, and each image of the end stands for the last of these numbers, or for the one behind it; or the disk was
--- only asked.
+-- only asked. One sync opened the store, and the disk was asked to commit the records up to that number, or the one behind it too, and nothing else.
 abbrev pub EndsOn : {W : Type 0} → Ghosts W → ShipContent → ℕ → FlatStore → W → W → Status → Type 0
 EndsOn G content number store before after status.Done =
     CountsPuts G (length (due content number) + 1) before after × IsSure G after
     × (stands (held_of G after) ≡ Stands (later number (length (due content number))) (state content number store (length (due content number))))
-    × (later number (length (due content number)) ≡ later content.start (length content.records)) × KeepsBank G (due content number) before after
+    × (later number (length (due content number)) ≡ later content.start (length content.records)) × KeepsBank G (due content number) before after × OpenedFor G (RecordsAsked G (length (due content number))) before after
 EndsOn G content number store before after status.PutFault =
-    (count : ℕ) × (count ≤ length (due content number)) × IsSure G after × (stands (held_of G after) ≡ Stands (later number count) (state content number store count))
+    (count : ℕ) × (count ≤ length (due content number)) × IsSure G after × (stands (held_of G after) ≡ Stands (later number count) (state content number store count)) × OpenedFor G (RecordsAsked G count) before after
 EndsOn G content number store before after status.DiskFault =
-    ((at : StopsAt G content.line_bytes number store (due content number) before after) × (at.count < length (due content number))) ⊎ OnlyOpens G before after
+    ((at : StopsAt G content.line_bytes number store (due content number) before after) × (at.count < length (due content number)) × OpenedFor G (RecordsStopped G at.count) before after) ⊎ OnlyOpens G before after
 EndsOn G content number store before after _ = Unit {0}
 
 -- Where the bytes stand for a number and a store: each image that a crash leaves since is one of the start with nothing printed since, or stands for

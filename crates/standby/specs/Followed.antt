@@ -1,6 +1,8 @@
 -- What following a text does, and one record of it.
 use Rattle.std.specs.Prelude.{◌≡◌, ℕ, zero, suc, ◌+◌, ◌<◌, ◌≤◌, ◌↔◌, List, [], ◌++◌, length, take, Option, Result, Ok, Err, IfErr, OnOk, IsSome, IfSome, ◌⊎◌, map, false}
 use Rattle.standby.specs.Below.{Elapses, Failed, FlatStore, Ghosts, Header, held_of, HoldsAtLeast, IsMoreBy, StoreView, Leaves, line_bytes, line_count, store_number, Prints, Rose, Stands, stands, TracksStore, AreTold, most_lines, RecordLine, with_begun}
+use Rattle.outside.specs.Deeds.{Since}
+use Rattle.standby.specs.FollowAsked.{RecordsAsked, RecordsStopped, StepAsks}
 use Rattle.standby.specs.TextPut.{CountsPuts, SeesPart}
 use Rattle.standby.specs.State.{laid_by, bank_begun, bank_behind, bank_with, due, ship_laid, IsTextNumber, IsTooLong, AllFit}
 use Rattle.standby.specs.Text.{ShipContent, ship_content, ShipLine, later, closing_line, kept_line, AreLines, IsPacked, record_of, next, told}
@@ -110,14 +112,15 @@ pub record BreaksAt {W : Type 0} (G : Ghosts W) (bytes number : ℕ) (store : Fl
   pub stood : stands (held_of G now) ≡ Stands (later number count) (laid_by bytes store (take count records))
 
 -- how following ended that was to print this text by so many puts, from a store that was tracked: all records were kept and it is printed, each line by
--- one put; or some were kept, and a first part of it is printed; or some were kept and told, and the disk then failed; or nothing was called
+-- one put; or some were kept, and a first part of it is printed; or some were kept and told, and the disk then failed; or nothing was called. The disk was
+-- asked to commit these records, and nothing else.
 abbrev pub EndsWith : {W : Type 0} → Ghosts W → (bytes number : ℕ) → FlatStore → List (List ShipLine) → (text : List ℕ) (puts : ℕ) → StoreView → W → W → Followed → Type 0
 EndsWith G bytes number store records text puts durable before after Done =
-    IsLater G bytes number store records durable after × Prints (G.printed before) (G.printed after) text well × CountsPuts G puts before after
+    IsLater G bytes number store records durable after × Prints (G.printed before) (G.printed after) text well × CountsPuts G puts before after × RecordsAsked G (length records) before after
 EndsWith G bytes number store records text puts durable before after PutFault =
-    BreaksAt G bytes number store records durable after × Prints (G.printed before) (G.printed after) text broken
+    (at : BreaksAt G bytes number store records durable after) × Prints (G.printed before) (G.printed after) text broken × RecordsAsked G at.count before after
 EndsWith G bytes number store records text puts durable before after DiskFault =
-    (at : StopsAt G bytes number store records before after) × (at.count < length records)
+    (at : StopsAt G bytes number store records before after) × (at.count < length records) × RecordsStopped G at.count before after
 EndsWith G bytes number store records text puts durable before after _ = after ≡ before
 
 -- so many of the records are kept and told
@@ -127,6 +130,7 @@ pub record SoFar {W : Type 0} (G : Ghosts W) (bytes number : ℕ) (store : FlatS
   pub stood : stands (held_of G now) ≡ Stands (later number count) (laid_by bytes store (take count records))
   pub printed : Prints (G.printed before) (G.printed now) (kept_text number count) well
   pub times : CountsPuts G count before now
+  pub deeds : RecordsAsked G count before now
 
 -- What following did that was to print this text by so many puts: each moment of it leaves the store at a number, and how it ended.
 pub record FollowsWith {W : Type 0} (G : Ghosts W) (bytes number : ℕ) (store : FlatStore) (records : List (List ShipLine)) (text : List ℕ) (puts : ℕ) (durable : StoreView) (before after : W) (how : Followed) : Type 0 where
@@ -182,6 +186,7 @@ StepsBy G bytes number store lines durable before after (Err _) = ⊥
 pub record Steps {W : Type 0} (G : Ghosts W) (bytes number : ℕ) (store : FlatStore) (lines : List ShipLine) (durable : StoreView) (before after : W) (result : Result (Unit {0}) Followed) : Type 0 where
   pub crash : Leaves G (IsLeftBetween bytes number store lines (G.printed before)) before after
   pub ends : StepsBy G bytes number store lines durable before after result
+  pub deeds : Since (G.deeds before) (G.deeds after) (StepAsks (held_of G before) result)
 
 -- What committing these records did, with a line put for each, and the last.
 pub record FollowsAll {W : Type 0} (G : Ghosts W) (records : List ShipRecord) (was durable : StoreView) (old new : W) (result : Result (Unit {0}) Followed) : Type 0 where

@@ -2,6 +2,7 @@ pub mod Below
 pub mod Text
 pub mod State
 pub mod TextPut
+pub mod FollowAsked
 pub mod Followed
 pub mod Shipped
 pub mod Read

@@ -11,7 +11,7 @@ pub returns-in-Done-clause-on : goal.returns-in-Done-clause-on
 returns-in-Done-clause-on g c = (
   λ told. record { store = c.in-Ok.store; shows = c.in-Ok.ensures.opened.shows told; due_on = c.in-Done.ensures.found },
   followed_done g.W.Outside g.met.W.Outside.fewer_later g.met.W.Outside.printed_now (ship_content c.args.ship.now) c.args.outside.now c.open.new.outside (opens_some g.W.Outside c.args.outside.now c.open.new.outside c.open.result c.open.ensures.asks.asks)
-      c.in-Ok.store c.follow.new.durable c.in-Ok.ensures.opened.shows c.in-Ok.ensures.opened.tracks c.follow.new.outside c.in-Done.ensures.only.time
+      c.in-Ok.store c.follow.new.durable c.in-Ok.ensures.opened.shows c.in-Ok.ensures.opened.tracks c.in-Ok.ensures.asks.asks.deeds c.follow.new.outside c.in-Done.ensures.only.time
       c.requires.content.number c.in-Done.ensures.found.1 c.in-Done.ensures.header (c.in-Done.ensures.kept refl) c.in-Done.ensures.follows,
 )
 
@@ -53,7 +53,7 @@ pub returns-in-DiskFault-clause-on : goal.returns-in-DiskFault-clause-on
 returns-in-DiskFault-clause-on g c = (
   inr (λ told. record { store = c.in-Ok.store; shows = c.in-Ok.ensures.opened.shows told; due_on = c.in-DiskFault.ensures.found }),
   followed_disk g.W.Outside g.met.W.Outside.fewer_later g.met.W.Outside.printed_now (ship_content c.args.ship.now) c.args.outside.now c.open.new.outside (opens_some g.W.Outside c.args.outside.now c.open.new.outside c.open.result c.open.ensures.asks.asks)
-      c.in-Ok.store c.follow.new.durable c.in-Ok.ensures.opened.shows c.in-Ok.ensures.opened.tracks c.follow.new.outside c.in-DiskFault.ensures.only.time c.in-DiskFault.ensures.follows,
+      c.in-Ok.store c.follow.new.durable c.in-Ok.ensures.opened.shows c.in-Ok.ensures.opened.tracks c.in-Ok.ensures.asks.asks.deeds c.follow.new.outside c.in-DiskFault.ensures.only.time c.in-DiskFault.ensures.follows,
 )
 
 pub returns-in-DiskFault-clause-time : goal.returns-in-DiskFault-clause-time
@@ -64,7 +64,7 @@ pub returns-clause-on : goal.returns-clause-on
 returns-clause-on g c = (
   λ told. record { store = c.in-Ok.store; shows = c.in-Ok.ensures.opened.shows told; due_on = c.in-PutFault.ensures.found },
   followed_put g.W.Outside g.met.W.Outside.fewer_later g.met.W.Outside.printed_now (ship_content c.args.ship.now) c.args.outside.now c.open.new.outside (opens_some g.W.Outside c.args.outside.now c.open.new.outside c.open.result c.open.ensures.asks.asks)
-      c.in-Ok.store c.follow.new.durable c.in-Ok.ensures.opened.shows c.in-Ok.ensures.opened.tracks c.follow.new.outside c.in-PutFault.ensures.only.time c.in-PutFault.ensures.follows,
+      c.in-Ok.store c.follow.new.durable c.in-Ok.ensures.opened.shows c.in-Ok.ensures.opened.tracks c.in-Ok.ensures.asks.asks.deeds c.follow.new.outside c.in-PutFault.ensures.only.time c.in-PutFault.ensures.follows,
 )
 
 pub returns-clause-time : goal.returns-clause-time
