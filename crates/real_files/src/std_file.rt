@@ -2,6 +2,7 @@
 ghost use Rattle.std.specs.Prelude.{◌≡◌, pos, ◌≤ℤ◌, [], IfOk};
 ghost use Rattle.std.specs.Fd.{file_raw_fd};
 ghost use Rattle.real_files.specs.Found.{found_by};
+ghost use Rattle.real_files.specs.Opened.{use_number};
 
 use crate::RawFile;
 use crate::file_trace::FileTrace;
@@ -35,6 +36,17 @@ impl FileUse {
 
     fn looks(self) -> bool {
         matches!(self, FileUse::Look)
+    }
+
+    // The number that stands for it in a note.
+    pub(crate) fn number(self) -> u64
+        ensures { result ≡ use_number self }
+    {
+        match self {
+            FileUse::Look => 0,
+            FileUse::Change => 1,
+            FileUse::Make => 2,
+        }
     }
 }
 
