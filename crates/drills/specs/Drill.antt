@@ -66,9 +66,9 @@ pub record IsTold (ended : Ended) (disk : StoppingDisk) (screen : MemoryScreen) 
   pub image_is : stop.image.items ≡ disk_held (memory_of disk)
 
 -- A stop's order and the commit lines seen are those of one run of the desk. What was asked of the disk is what happened at that run's events asks, in order, and no
--- more; each write among it has bytes, and it has left the image. Where the write with this number was reached, it is the last that was asked, and it alone failed and left this outcome; where it
--- wasn't, nothing failed, fewer writes were made, all events went well and all commits were seen. The image stands for the first commits of the order, run one after
--- another on the store before, and no fewer than were seen, or for all.
+-- more; each write among it has bytes, and it has left the image. Where the write with this number was reached, it is the last that was asked, and it alone failed and
+-- left this outcome; where it wasn't, nothing failed, fewer writes were made, all events went well and all commits were seen. The image stands for the first commits
+-- of the order, run one after another on the store before, and no fewer than were seen, or for all.
 pub record IsStop (job : Job) (held : List ℕ) (number : ℕ) (store : FlatStore) (write : ℕ) (outcome : List ℕ) (stop : Stop) : Type 0 where
   pub deeds : List Deed
   pub stopped : stop.reached ≡ true → ∥ AreStopped write deeds ∥₁

@@ -1,12 +1,19 @@
 -- From what the console did on an outside to what it did on the file and the screen behind it.
-use Rattle.std.specs.Prelude.{Bool}
+use Rattle.std.specs.Prelude.{Bool, OnOk, zero}
+use Rattle.std.proofs.lemmas.Result.{on_ok_weaker}
+use Rattle.schedule_replay.specs.Runs.{report_lines_of}
 use Rattle.file_runs.proofs.Common.{◌≡◌, inl, inr, ⊎_elim, ℕ, ◌+◌, ◌≤◌, List, [], ◌∷◌, ◌++◌, append_assoc, Torn, written, length, length-append, take, drop, refl, sym, ◌∙◌, ap, subst, arith, suc, Option, Result, Some, IsSome, unwrap_or, Leaves, OnlyAsks, None, Ghosts, false, IsSure, FlatStore, Stands, stands, begun, IsSerial, Given, call, IsFaultAt, TellsStore, Status, SessionState, report, event_lines, Desk, IsRunOf, run, ReportLine, Failed, held_of, Happened, RanJob, Refused, job_desk, names_of, Deed, Tore, Synced, file_images_at, file_images_by, bytes_put, printed_of, marks_of, AreBehind, Hands, IsBehind, IsSeenAt, KeepsFile, LeavesAlways, LeavesAt, LeavesLast, OnlyAsked, RanOnFile, RanOnScreen, FromAnyStore, RunsOnFile, begun_by}
 use Rattle.drills.proofs.AskedLemmas.{opened_asks}
-use Rattle.outside.specs.Deeds.{IsCut, Since}
+use Rattle.outside.proofs.Runs.{not_after}
+use Rattle.outside.specs.Deeds.{IsCut, Since, SyncedOnce}
+use Rattle.outside.specs.Moments.{IsNotAfter}
 use Rattle.outside.specs.Runs.{OnlyOpens, OpensAndPuts}
 use Rattle.real_files.specs.Deeds.{file_after}
 use Rattle.schedule_replay.specs.RunAsks.{happened, OpenedAsks}
 use Rattle.file_runs.specs.FileRun.{NothingAsked}
+use Rattle.file_runs.specs.FileFollowed.{FileRecords, FileStopped}
+use Rattle.file_runs.specs.ScreenWords.{RanInMemory}
+use Rattle.standby.specs.FollowAsked.{FailedAsks, OpenedFor, RecordAsks, RecordsAsked, RecordsStopped}
 use Rattle.std.proofs.lemmas.List.{append_cancel_left, nil_from_length, take_all}
 use Rattle.outside.proofs.Torn.{torn_by_written, untouched}
 use Rattle.std.proofs.lemmas.Bool.{cases_lt}
@@ -149,7 +156,21 @@ module _ {W : Type 0} (G : Ghosts W) (before after : W) (first : List ℕ) (puts
         printed =
             let text = λ (bytes : List ℕ). report (names_of ran.job) programs number taken did.ran.rest (desk bytes) in
             subst (λ (bytes : List ℕ). Prints (Some []) (Some (printed_of puts)) (text bytes) did.put) held_is (printed_so (text (held_of G before)) did.put did.printed);
+        times =
+            let lines = λ (bytes : List ℕ). report_lines_of (job_opening (names_of ran.job) ran.job number bytes store) taken did.ran.rest in
+            subst (λ (bytes : List ℕ). OnOk did.put (length puts ≡ length (lines bytes))) held_is
+            (on_ok_weaker did.put (λ counts. let many = counts printed_told in omega (arith, many, behind.count, behind.unput)) did.times);
       }
+
+module _ {W : Type 0} (G : Ghosts W) (before after : W) (first : List ℕ) (puts : List Deed) (behind : IsBehind G before after first puts) (starved : Bool)
+    (calm : starved ≡ false → ¬ (Rose (G.disk_faults before) (G.disk_faults after))) where
+  pub ran_in_memory : (given : Given) (order : List (ℕ × ℕ)) (session : Option SessionState) (end : Status) → RanJob G given (call before after order end) session
+      → FromAnyStore first (λ number store. RanInMemory starved given number store first puts order end)
+  unfolding ran_on_screen
+  ran_in_memory given order session end ran number store stood = record {
+    ran = ran_on_screen G before after first puts behind given order end session ran number store stood;
+    fine = λ fed. (ran.has_run number store (stands_at G before after first puts behind number store stood)).ran.all_fine (calm fed);
+  }
 
 module _ {W : Type 0} (G : Ghosts W) (before after : W) (first : List ℕ) (deeds puts : List Deed) (starved : Bool) (behind : AreBehind G before after first deeds puts starved) where
   -- the file's images after so many deeds, and what may have been seen then, are a pair that a crash may have left since the start
@@ -176,7 +197,7 @@ module _ {W : Type 0} (G : Ghosts W) (before after : W) (first : List ℕ) (deed
       let its = seen_at puts done in leaves image its.0 (since_start done image its.0 within is_image its.1)
 
   -- the deeds of calls that told these
-  since_none : (P : List Deed → Type 0) → Since (G.deeds before) (G.deeds after) P → P deeds
+  pub since_none : (P : List Deed → Type 0) → Since (G.deeds before) (G.deeds after) P → P deeds
   since_none P since =
       let told : Since (Some []) (Some deeds) P =
       subst (λ (those : Option (List Deed)). Since (Some []) those P) behind.deeds_are (subst (λ (those : Option (List Deed)). Since those (G.deeds after) P) behind.undone since) in
@@ -205,6 +226,39 @@ module _ {W : Type 0} (G : Ghosts W) (before after : W) (first : List ℕ) (deed
   -- where the disk was only read, nothing was asked that may change it
   pub only_read : OnlyAsks G before after → NothingAsked deeds puts
   only_read asks = (let is : Some deeds ≡ Some [] = sym behind.deeds_are ∙ asks.deeds ∙ behind.undone in cc, unput G before after first puts behind.screen asks.calls.puts)
+
+  -- what was held when so much was done
+  held_at : (mid : W) (earlier : List Deed) → IsNotAfter (G.moment before) (G.moment mid) → G.deeds mid ≡ Some earlier → held_of G mid ≡ file_after first earlier
+  held_at mid earlier since told = ap (λ (those : Option (List ℕ)). unwrap_or those []) (behind.holds mid earlier since.origin told)
+
+  -- records that were committed behind earlier deeds
+  records_asked : (count : ℕ) (start now : W) → IsNotAfter (G.moment before) (G.moment start) → G.deeds start ≡ Some (Synced ∷ []) → RecordsAsked G count start now
+      → IsNotAfter (G.moment before) (G.moment now) × ((done : List Deed) × (G.deeds now ≡ Some done) × FileRecords first count done)
+  records_asked zero start now since told_is (same, held, later) = (not_after (G.moment before) (G.moment start) (G.moment now) since later, (Synced ∷ [], same ∙ told_is, refl))
+  records_asked (suc count) start now since told_is (mid, asked, later, next) =
+      let (later_than, (earlier, earlier_is, those)) = records_asked count start mid since told_is asked in
+      let here : Since (Some earlier) (G.deeds now) (RecordAsks (held_of G mid)) = subst (λ (told : Option (List Deed)). Since told (G.deeds now) (RecordAsks (held_of G mid))) earlier_is next in (
+        not_after (G.moment before) (G.moment mid) (G.moment now) later_than later,
+        (earlier ++ here.0, here.1, (earlier, here.0, refl, those, subst (λ (bytes : List ℕ). RecordAsks bytes here.0) (held_at mid earlier later_than earlier_is) here.2)),
+      )
+
+  -- and behind an opening
+  pub followed_asks : (count : ℕ) → OpenedFor G (RecordsAsked G count) before after → FileRecords first count deeds
+  followed_asks count (start, since, synced, held, asked) =
+      let told : G.deeds start ≡ Some (Synced ∷ []) = subst (λ (those : Option (List Deed)). SyncedOnce those (G.deeds start)) behind.undone synced in
+      let (later_than, (done, done_is, those)) = records_asked count start after since told asked in
+      let all : Some done ≡ Some deeds = sym done_is ∙ behind.deeds_are in
+      let is : done ≡ deeds = cc in
+      subst (FileRecords first count) is those
+
+  pub stopped_asks : (count : ℕ) → OpenedFor G (RecordsStopped G count) before after → FileStopped first count deeds
+  stopped_asks count (start, since, synced, held, (mid, asked, later, next)) =
+      let told : G.deeds start ≡ Some (Synced ∷ []) = subst (λ (those : Option (List Deed)). SyncedOnce those (G.deeds start)) behind.undone synced in
+      let (later_than, (earlier, earlier_is, those)) = records_asked count start mid since told asked in
+      let here : Since (Some earlier) (G.deeds after) (FailedAsks (held_of G mid)) = subst (λ (told : Option (List Deed)). Since told (G.deeds after) (FailedAsks (held_of G mid))) earlier_is next in
+      let all : Some deeds ≡ Some (earlier ++ here.0) = sym behind.deeds_are ∙ here.1 in
+      let is : deeds ≡ earlier ++ here.0 = cc in
+      inl (earlier, here.0, is, those, subst (λ (bytes : List ℕ). FailedAsks bytes here.0) (held_at mid earlier later_than earlier_is) here.2)
 
   -- where nothing was called, nothing was asked
   pub nothing : after ≡ before → (deeds ≡ []) × (puts ≡ [])
@@ -245,6 +299,9 @@ module _ {W : Type 0} (G : Ghosts W) (before after : W) (first : List ℕ) (deed
             (did.seen (printed_told G before after first puts behind.screen) image seen was));
         fine = λ is_calm.
             did.ran.all_fine (λ rose. absurd (omega (arith, behind.started, behind.calm_disk is_calm, subst (λ (n : ℕ). Rose n (G.disk_faults after)) behind.started rose)));
+        doubt = λ shut front event is.
+            let its = did.ran.doubt (ap (λ (end : Desk). end.closed) did.ran.end_is ∙ ap (λ (bytes : List ℕ). (run programs taken (desk bytes)).closed) held ∙ shut) front event is in
+            (its.0, its.1, its.2, λ image left. let now = behind.now image left in its.3 image now.0 now.1);
         journal = λ still image left.
             let open_end : did.ran.end.closed ≡ false = ap (λ (end : Desk). end.closed) did.ran.end_is ∙ ap (λ (bytes : List ℕ). (run programs taken (desk bytes)).closed) held ∙ still in
             let kept = subst (λ (these : List ReportLine). KeepsJournal these (journal_in (held_of G before)) (journal_in (held_of G after))) lines (did.ran.to.journal open_end) in

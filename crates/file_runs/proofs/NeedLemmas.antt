@@ -1,15 +1,12 @@
--- From what the words on a file need to what they need of the outside that the file is behind.
+-- From what the words need to what they need of an outside that holds these bytes.
 use Rattle.std.specs.Prelude.{IsTrue, IsSome}
-use Rattle.file_runs.proofs.Common.{◌≡◌, ◌∙◌, ◌≤◌, ap, sym, subst, refl, List, ℕ, [], Option, Some, Ghosts, held_of, unwrap_or, Stands, stands, FlatStore}
+use Rattle.file_runs.proofs.Common.{◌≡◌, ◌∙◌, ap, sym, subst, refl, List, ℕ, [], Option, Some, Ghosts, held_of, unwrap_or}
 use Rattle.call_status.specs.Opening.{IsStanding}
-use Rattle.console.specs.Causes.{HasAll, CanShip, CanFollow}
+use Rattle.console.specs.Causes.{HasAll}
 use Rattle.console.specs.declared.command_words.Command.{Command}
 use Rattle.console.specs.declared.command_words.Command.TheVariants as command
-use Rattle.store_calls.specs.Show.{IsInside}
-use Rattle.standby.specs.State.{behind}
-use Rattle.store.specs.KeptStore.{StoreView}
 use Rattle.store.specs.Shows.{Shows}
-use Rattle.file_runs.specs.FileNeeds.{HasAllOnFile, MayFollow, StandsWith}
+use Rattle.file_runs.specs.FileNeeds.{HasAllOnFile, StandsWith}
 
 module _ {W : Type 0} (G : Ghosts W) (before : W) (first : List ℕ) (honest : IsTrue (G.is_honest before)) (held : G.held before ≡ Some first) where
   has_told : IsSome (G.held before)
@@ -39,4 +36,9 @@ module _ {W : Type 0} (G : Ghosts W) (before : W) (first : List ℕ) (honest : I
     stood = subst IsStanding (sym is_first) has.stood;
     follows = λ content is means store shows. has.follows content is means store (subst (λ (bytes : List ℕ). Shows bytes store) is_first shows);
   }
-  has_all_of left _ has = absurd has
+  has_all_of left command.Try has = (has.0, (honest, has_told, subst IsStanding (sym is_first) has.1))
+  has_all_of left command.List has = has
+  has_all_of left command.Drill has = has
+  has_all_of left (command.Big transfers) has = (honest, has_told, subst IsStanding (sym is_first) has)
+  has_all_of left command.Audit has = has
+  has_all_of left (command.Trace activation) has = has

@@ -1,5 +1,7 @@
 -- From what the words without a file did on an outside to what they handed to the screen behind it.
 use Rattle.file_runs.proofs.Common.{◌≡◌, inl, inr, ⊎_elim, ℕ, ◌≤◌, List, [], length, min, ap, ◌∙◌, subst, IsSome, Option, None, Some, Result, Prints, held_of, ◌*◌, ◌++◌, Ghosts, Failed, Desk, ReportLine, serial_lines, event_lines, IsRunOf, run, SessionState, Given, call, IsFaultAt, Status, Happened, Refused, job_desk, Deed, printed_of, Hands, IsBehind, AuditedOnScreen, AuditsBy, DrilledJob, DrilledOnScreen, DrillsBy, HandsDrill, HandsLoad, HandsStops, ListedOnScreen, LoadedOnScreen, TracedOnScreen, TracesBy, TriedOnScreen, begun, IsSerial}
+use Rattle.std.specs.Prelude.{Bool, false}
+use Rattle.outside.specs.Causes.{Rose}
 use Rattle.desk.specs.declared.event.Event.{Event}
 use Rattle.job_text.specs.declared.job.Job.{Job}
 use Rattle.call_status.specs.Statuses.{WentThrough}
@@ -10,7 +12,7 @@ use Rattle.store_calls.specs.Bundled.{WithBundle}
 use Rattle.store_calls.specs.Traced.{TracedBy, TracedFrom}
 use Rattle.drills.specs.Drilled.{Drilled, DrilledTo, DrillsJob, PutsFirst, PutsWhole, broken, last_line, stop_lines, well}
 use Rattle.console.specs.Listed.{Listed}
-use Rattle.file_runs.proofs.FileLemmas.{handed, held_is, printed_so, ran_on_screen, stands_at, told, unprinted, unput}
+use Rattle.file_runs.proofs.FileLemmas.{handed, held_is, printed_so, ran_in_memory, stands_at, told, unprinted, unput}
 
 -- what was done with the text of a bundle, in other words
 with_bundle : (given : Given) (stays stayed : Type 0) (did done : List ℕ → Type 0) → (stays → stayed) → ((text : List ℕ) → did text → done text) → (end : Status) → WithBundle given stays did end → WithBundle given stayed done end
@@ -19,7 +21,8 @@ with_bundle given stays stayed did done keep on status.NoMemory was = keep was
 with_bundle given stays stayed did done keep on status.TooBig was = (keep was.0, was.1)
 with_bundle given stays stayed did done keep on _ was = (was.0, was.1, on was.0 was.2)
 
-module _ {W : Type 0} (G : Ghosts W) (before after : W) (first : List ℕ) (puts : List Deed) (behind : IsBehind G before after first puts) where
+module _ {W : Type 0} (G : Ghosts W) (before after : W) (first : List ℕ) (puts : List Deed) (behind : IsBehind G before after first puts) (starved : Bool)
+    (calm : starved ≡ false → ¬ (Rose (G.disk_faults before) (G.disk_faults after))) where
   none : after ≡ before → puts ≡ []
   none is = unput G before after first puts behind (ap (λ (w : W). (G.moment w).puts) is)
 
@@ -56,17 +59,17 @@ module _ {W : Type 0} (G : Ghosts W) (before after : W) (first : List ℕ) (puts
     trace_on_screen activation end did =
         with_bundle given (after ≡ before) (puts ≡ []) (λ text. TracedBy G text activation before after end) (λ text. TracesBy text activation puts end) none (traces_by activation end) end did.by_status
 
-    pub try_on_screen : (session : Option SessionState) (end : Status) → Happened G given (call before after order end) session → TriedOnScreen given first puts order session end
-    try_on_screen session status.Done did = ran_on_screen G before after first puts behind given order status.Done session did.by_status
+    pub try_on_screen : (session : Option SessionState) (end : Status) → Happened G given (call before after order end) session → TriedOnScreen starved given first puts order session end
+    try_on_screen session status.Done did = ran_in_memory G before after first puts behind starved calm given order session status.Done did.by_status
     try_on_screen (Some session) (status.Store offset) did = λ number store stood. did.by_status number store (stands_at G before after first puts behind number store stood)
     try_on_screen None (status.Store offset) did = (refused order (status.Store offset) did.by_status.refused, no_store offset did.by_status.fault)
-    try_on_screen (Some session) status.DiskFault did = ran_on_screen G before after first puts behind given order status.DiskFault (Some session) did.by_status
+    try_on_screen (Some session) status.DiskFault did = ran_in_memory G before after first puts behind starved calm given order (Some session) status.DiskFault did.by_status
     try_on_screen None status.DiskFault did = unput G before after first puts behind did.by_status.asks.calls.puts
-    try_on_screen session status.PutFault did = ran_on_screen G before after first puts behind given order status.PutFault session did.by_status
+    try_on_screen session status.PutFault did = ran_in_memory G before after first puts behind starved calm given order session status.PutFault did.by_status
     try_on_screen session end did = refused order end did.by_status
 
   module _ (transfers : ℕ) (order : List (ℕ × ℕ)) (session : Option SessionState) where
-    ran_load : (end : Status) → WentThrough end → RanBig G transfers (call before after order end) session → HandsLoad transfers first puts order end
+    ran_load : (end : Status) → WentThrough end → RanBig G transfers (call before after order end) session → HandsLoad starved transfers first puts order end
     ran_load end past ran =
         let job = ran.job in
         let programs = job.programs.items in (
@@ -89,12 +92,13 @@ module _ {W : Type 0} (G : Ghosts W) (before after : W) (first : List ℕ) (puts
                 order_is = did.ran.order_is ∙ ap (λ (end : Desk). end.order) did.ran.end_is ∙ ap (λ (bytes : List ℕ). (run programs taken (desk bytes)).order) held;
                 names = names;
                 serial_run = subst (λ (lines : List ReportLine). IsSerial acts number store order lines (run programs taken (desk first)).committed (run programs taken (desk first)).closed) is_lines with_end;
+                fine = λ fed. did.ran.all_fine (calm fed);
                 handed = subst (λ (lines : List ReportLine). Hands puts (line_for transfers lines) end) is_lines (handed G before after first puts behind _ end (did.told past));
                 last = subst (λ (lines : List ReportLine). last_out lines ≡ last_out (serial_lines acts number order store)) is_lines (did.last past);
               },
         )
 
-    pub load_on_screen : (end : Status) → Loaded G transfers (call before after order end) session → LoadedOnScreen transfers first puts order end
+    pub load_on_screen : (end : Status) → Loaded G transfers (call before after order end) session → LoadedOnScreen starved transfers first puts order end
     load_on_screen status.Done did = ran_load status.Done tt did.by_status.0
     load_on_screen (status.Store offset) did = (refused order (status.Store offset) did.by_status.1.refused, no_store offset did.by_status.1.fault)
     load_on_screen status.DiskFault did = unprinted G before after first puts behind did.by_status.1

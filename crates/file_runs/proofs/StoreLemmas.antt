@@ -1,11 +1,14 @@
 -- From what the words on a store did on an outside to what they did on the file and the screen behind it.
 use Rattle.std.specs.Prelude.{Bool}
-use Rattle.file_runs.proofs.Common.{◌≡◌, ◌⊎◌, ℕ, ◌<◌, List, [], length, ap, sym, ◌∙◌, subst, IsSome, Torn, held_of, Ghosts, Given, call, Status, IsNoStore, IsStored, Written, WrittenBy, Deed, AreBehind, LeavesLast, inl, inr, ⊎_elim, stands, IsFaultAt, printed_of, arith, AreTold, Option, Some, IsSure, FlatStore, Standing, Stands, FromAnyStore}
+use Rattle.file_runs.proofs.Common.{◌≡◌, ◌⊎◌, refl, ℕ, ◌<◌, List, [], length, ap, sym, ◌∙◌, subst, IsSome, Torn, held_of, Ghosts, Given, call, Status, IsNoStore, IsStored, Written, WrittenBy, Deed, AreBehind, LeavesLast, inl, inr, ⊎_elim, stands, IsFaultAt, printed_of, arith, AreTold, Option, Some, IsSure, FlatStore, Standing, Stands, FromAnyStore}
 use Rattle.outside.specs.Runs.{OnlyOpens}
+use Rattle.outside.specs.Deeds.{IsCut}
+use Rattle.outside.proofs.DeedLemmas.{did_since}
+use Rattle.store_calls.specs.New.{image_deeds}
 use Rattle.call_status.specs.declared.status.Status.TheVariants as status
 use Rattle.store_calls.specs.Renewed.{IsRenewed, Renewed}
 use Rattle.file_runs.specs.FileMade.{RenewedOnFile, WritesBy, WroteWidened, WrittenOnFile}
-use Rattle.file_runs.proofs.FileLemmas.{handed, held_is, leaves_always, nothing, only_asked, only_read, sure_last, told, unprinted, keeps, unput, leaves_at, printed_so, stands_at, sure_now}
+use Rattle.file_runs.proofs.FileLemmas.{followed_asks, stopped_asks, handed, held_is, leaves_always, nothing, only_asked, only_read, since_none, sure_last, told, unprinted, keeps, unput, leaves_at, printed_so, stands_at, sure_now}
 use Rattle.store_calls.specs.Show.{HasNoRange, HasRange, PrintsRows, RangeShown}
 use Rattle.store_calls.specs.declared.show.Range.{Range}
 use Rattle.standby.specs.ShipCalled.{IsNotKept, PutsText, ShippedFrom}
@@ -32,10 +35,15 @@ module _ {W : Type 0} (G : Ghosts W) (before after : W) (first : List ℕ) (deed
     stored : IsStored G image before after → LeavesLast first deeds (λ left. left ≡ image)
     stored its = sure_last G before after first deeds puts starved behind image (its.held has_told) (its.sure behind.screen.honest has_told)
 
+    put_down : IsStored G image before after → deeds ≡ image_deeds image
+    put_down its =
+        let plan = image_deeds image in
+        since_none G before after first deeds puts starved behind (λ done. done ≡ plan) (did_since (λ done. done ≡ plan) (G.deeds before) (G.deeds after) plan its.deeds refl)
+
     writes_by : (end : Status) → WrittenBy G image line before after end → WritesBy image line first deeds puts end
-    writes_by status.Done did = (empty did.0, stored did.0, handed G before after first puts behind.screen line status.Done did.1)
-    writes_by status.PutFault did = (empty did.0, stored did.0, handed G before after first puts behind.screen line status.PutFault did.1)
-    writes_by status.DiskFault did = unprinted G before after first puts behind.screen did.0
+    writes_by status.Done did = (empty did.0, put_down did.0, stored did.0, handed G before after first puts behind.screen line status.Done did.1)
+    writes_by status.PutFault did = (empty did.0, put_down did.0, stored did.0, handed G before after first puts behind.screen line status.PutFault did.1)
+    writes_by status.DiskFault did = (unprinted G before after first puts behind.screen did.0, since_none G before after first deeds puts starved behind (IsCut (image_deeds image)) did.2)
     writes_by status.Exists did = (subst (λ (bytes : List ℕ). 0 < length bytes) same (did.1 has_told), only_read G before after first deeds puts starved behind did.0)
     writes_by status.NoMemory did = only_read G before after first deeds puts starved behind did
     writes_by _ did = did
@@ -149,14 +157,14 @@ module _ {W : Type 0} (G : Ghosts W) (before after : W) (first : List ℕ) (deed
         ap stands is ∙ stood ∙ ap (λ (n : ℕ). Stands n store) (sym number_is)
 
     ends_at : (number : ℕ) (store : FlatStore) (end : Status) → stands first ≡ Stands number store → EndsOn G content number store before after end → EndsAt content number store first deeds puts end
-    ends_at number store status.Done stood did = (stand_last _ did.1 did.2, did.3)
-    ends_at number store status.PutFault stood did = (did.0, did.1, stand_last _ did.2 did.3)
+    ends_at number store status.Done stood did = (followed_asks G before after first deeds puts starved behind (length (due content number)) did.5, stand_last _ did.1 did.2, did.3)
+    ends_at number store status.PutFault stood did = (did.0, did.1, followed_asks G before after first deeds puts starved behind did.0 did.4, stand_last _ did.2 did.3)
     ends_at number store status.DiskFault stood (inl did) =
         let is : Some (printed_of puts) ≡ Some (kept_text number did.0.count) = printed_so G before after first puts behind.screen (kept_text number did.0.count) well did.0.printed in
-        (did.0.count, cc, λ left is_left. let its = behind.now left is_left in did.0.left left its.0 its.1)
+        (did.0.count, cc, stopped_asks G before after first deeds puts starved behind did.0.count did.2, λ left is_left. let its = behind.now left is_left in did.0.left left its.0 its.1)
     ends_at number store status.DiskFault stood (inr asks) =
         let asked = only_asked G before after first deeds puts starved behind asks in
-        (0, ap printed_of asked.unput, λ left is_left. (0, omega arith, omega arith, at_start number store left stood (asked.keeps.kept (length deeds) left (omega arith) is_left)))
+        (0, ap printed_of asked.unput, inr (refl, asked.keeps.asked), λ left is_left. (0, omega arith, omega arith, at_start number store left stood (asked.keeps.kept (length deeds) left (omega arith) is_left)))
     ends_at number store _ stood did = tt
 
     follows_on : (end : Status) → FollowsOn G content before after end → FromAnyStore first (λ number store. FollowedText content number store first deeds puts end)

@@ -1,7 +1,8 @@
 -- From what each word did on an outside to what it did on the file and the screen behind it.
 use Rattle.call_status.specs.Statuses.{WentThrough}
 use Rattle.call_status.specs.Opening.{IsStanding}
-use Rattle.std.specs.Prelude.{Bool}
+use Rattle.std.specs.Prelude.{Bool, false}
+use Rattle.outside.specs.Causes.{Rose}
 use Rattle.file_runs.proofs.Common.{◌≡◌, refl, ℕ, List, Ghosts, Given, new_line, Deed, AreBehind, IsBehind, DidOnFile, IsOnFile, DidOnScreen}
 use Rattle.desk.specs.Answers.{order_told}
 use Rattle.job_calls.specs.declared.ended.Ended.{Ended}
@@ -33,12 +34,13 @@ module _ {W : Type 0} (G : Ghosts W) (before after : W) (first : List ℕ) (deed
   did_on_file command.Follow stood did = follow_on_file G before after first deeds puts starved behind source (order_told ended.order.items) ended.status did
   did_on_file _ stood did = tt
 
-module _ {W : Type 0} (G : Ghosts W) (before after : W) (first : List ℕ) (puts : List Deed) (behind : IsBehind G before after first puts) (source : Given) (ended : Ended) where
-  pub did_on_screen : (form : Command) → Does G form source before after ended → DidOnScreen form source first puts ended
-  did_on_screen command.Try did = try_on_screen G before after first puts behind source (order_told ended.order.items) ended.session ended.status did
-  did_on_screen (command.Big transfers) did = load_on_screen G before after first puts behind transfers (order_told ended.order.items) ended.session ended.status did
-  did_on_screen command.List did = list_on_screen G before after first puts behind source (order_told ended.order.items) ended.status did
-  did_on_screen command.Drill did = drill_on_screen G before after first puts behind source (order_told ended.order.items) ended.status did
-  did_on_screen command.Audit did = audit_on_screen G before after first puts behind source (order_told ended.order.items) ended.status did
-  did_on_screen (command.Trace activation) did = trace_on_screen G before after first puts behind source (order_told ended.order.items) activation ended.status did
+module _ {W : Type 0} (G : Ghosts W) (before after : W) (first : List ℕ) (puts : List Deed) (behind : IsBehind G before after first puts) (starved : Bool)
+    (calm : starved ≡ false → ¬ (Rose (G.disk_faults before) (G.disk_faults after))) (source : Given) (ended : Ended) where
+  pub did_on_screen : (form : Command) → Does G form source before after ended → DidOnScreen starved form source first puts ended
+  did_on_screen command.Try did = try_on_screen G before after first puts behind starved calm source (order_told ended.order.items) ended.session ended.status did
+  did_on_screen (command.Big transfers) did = load_on_screen G before after first puts behind starved calm transfers (order_told ended.order.items) ended.session ended.status did
+  did_on_screen command.List did = list_on_screen G before after first puts behind starved calm source (order_told ended.order.items) ended.status did
+  did_on_screen command.Drill did = drill_on_screen G before after first puts behind starved calm source (order_told ended.order.items) ended.status did
+  did_on_screen command.Audit did = audit_on_screen G before after first puts behind starved calm source (order_told ended.order.items) ended.status did
+  did_on_screen (command.Trace activation) did = trace_on_screen G before after first puts behind starved calm source (order_told ended.order.items) activation ended.status did
   did_on_screen _ did = tt

@@ -2,15 +2,17 @@
 use Rattle.std.specs.Prelude.{◌≡◌, ℕ, ◌<◌, ◌⊎◌, List, [], length}
 use Rattle.file_runs.specs.Below.{Deed, FlatStore, Given, IsAll, IsNoStore, printed_of, Stands, stands, Status, Torn}
 use Rattle.call_status.specs.declared.status.Status.TheVariants as status
+use Rattle.outside.specs.Deeds.{IsCut}
+use Rattle.store_calls.specs.New.{image_deeds}
 use Rattle.store_calls.specs.Renewed.{IsNoOne, renew_line, renewed_image, standing_as_one, store_widened}
 use Rattle.file_runs.specs.FileRun.{Hands, LeavesAlways, LeavesLast, NothingAsked}
 
--- How writing an image and then a line ended: the file gave no bytes, and the image is left and nothing else; or a call of the file failed, and nothing was
--- handed to the screen; or nothing was asked, as there are bytes in it or no memory. Other ends don't come.
+-- How writing an image and then a line ended: the file gave no bytes, three writes and three syncs put the image down, and it is left and nothing else; or one
+-- of these failed, and nothing was handed to the screen; or nothing was asked, as there are bytes in it or no memory. Other ends don't come.
 abbrev pub WritesBy : (image line first : List ℕ) (deeds puts : List Deed) (end : Status) → Type 0
-WritesBy image line first deeds puts status.Done = (first ≡ []) × LeavesLast first deeds (λ left. left ≡ image) × Hands puts line status.Done
-WritesBy image line first deeds puts status.PutFault = (first ≡ []) × LeavesLast first deeds (λ left. left ≡ image) × Hands puts line status.PutFault
-WritesBy image line first deeds puts status.DiskFault = printed_of puts ≡ []
+WritesBy image line first deeds puts status.Done = (first ≡ []) × (deeds ≡ image_deeds image) × LeavesLast first deeds (λ left. left ≡ image) × Hands puts line status.Done
+WritesBy image line first deeds puts status.PutFault = (first ≡ []) × (deeds ≡ image_deeds image) × LeavesLast first deeds (λ left. left ≡ image) × Hands puts line status.PutFault
+WritesBy image line first deeds puts status.DiskFault = (printed_of puts ≡ []) × IsCut (image_deeds image) deeds
 WritesBy image line first deeds puts status.Exists = (0 < length first) × NothingAsked deeds puts
 WritesBy image line first deeds puts status.NoMemory = NothingAsked deeds puts
 WritesBy image line first deeds puts _ = ⊥

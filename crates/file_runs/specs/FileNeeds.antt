@@ -1,4 +1,4 @@
--- What the words on a file need to end well: what `HasAll` says of an outside, of the bytes that the file gave.
+-- What the words need to end well: what `HasAll` says of an outside, of the bytes that the file gave, or that a disk in memory held.
 use Rattle.std.specs.Prelude.{◌≡◌, ◌≤◌, ◌⊎◌, ℕ, List, [], length, All, Option, Some}
 use Rattle.call_status.specs.Call.{Given}
 use Rattle.call_status.specs.Opening.{IsStanding}
@@ -15,7 +15,9 @@ use Rattle.standby.specs.State.{IsTextNumber, behind, due}
 use Rattle.standby.specs.Text.{ShipContent, IsContent, ship_text}
 use Rattle.store.specs.KeptStore.{StoreView, store_number}
 use Rattle.store.specs.Shows.{Shows}
+use Rattle.store_calls.specs.Audited.{CanAudit}
 use Rattle.store_calls.specs.Show.{IsInside}
+use Rattle.store_calls.specs.Traced.{CanTrace}
 use Rattle.store_calls.specs.declared.show.Range.{Range}
 use Rattle.store_format.specs.Header.{most_lines}
 use Rattle.store_format.specs.Stands.{Stands, stands}
@@ -40,7 +42,8 @@ pub record MayFollow (left : Option (List ℕ)) (first : List ℕ) : Type 0 wher
   pub follows : (held : ShipContent) → IsContent held → text ≡ ship_text held → (store : StoreView) → Shows first store
       → IsAlike store.header held × IsTextNumber held (store_number store) × All (λ lines. length lines ≤ most_lines store.header) (due held (store_number store))
 
--- what a word on a file needs: a job and a store; a store with the range; no bytes, and for `renew` a store of version 1 in the source; a store that keeps the records, or that can follow
+-- what a word needs: a job, and a store to run it on; a store with the range; no bytes, and for `renew` a store of version 1 in the source; a store that keeps the
+-- records, or that can follow; a store to run a load on; a bundle with no wrong part, and a trace in it
 abbrev pub HasAllOnFile : Command → Option (List ℕ) → (first : List ℕ) → Type 0
 HasAllOnFile command.Run left first = HasJob left × IsStanding first
 HasAllOnFile (command.Show range) left first = StandsWith range first
@@ -48,7 +51,12 @@ HasAllOnFile (command.New header) left first = first ≡ []
 HasAllOnFile (command.Renew bank) left first = HasOldStore left × (first ≡ [])
 HasAllOnFile (command.Ship from) left first = KeepsBehind from first
 HasAllOnFile command.Follow left first = MayFollow left first
-HasAllOnFile _ left first = ⊥
+HasAllOnFile command.Try left first = HasJob left × IsStanding first
+HasAllOnFile command.List left first = HasJob left
+HasAllOnFile command.Drill left first = HasJob left
+HasAllOnFile (command.Big transfers) left first = IsStanding first
+HasAllOnFile command.Audit left first = CanAudit left
+HasAllOnFile (command.Trace activation) left first = CanTrace activation left
 
 -- it ended well, but for want of memory
 abbrev pub EndsWell : Status → Type 0

@@ -1,9 +1,11 @@
 -- What a run left of a file and a screen, in the words of what was asked of them.
-use Rattle.std.specs.Prelude.{◌≡◌, ℕ, ◌+◌, ◌≤◌, ◌++◌, Bool, true, false, List, [], ◌∷◌, length, take, count_by, Option, None, Some, Result, Ok, IsTrue}
+use Rattle.std.specs.Prelude.{◌≡◌, ℕ, ◌+◌, ◌≤◌, ◌%◌, ◌^◌, ◌++◌, slice_set, OnOk, Bool, true, false, List, [], ◌∷◌, length, take, count_by, Option, None, Some, Result, Ok, IsTrue}
 use Rattle.file_runs.specs.Below.{begun, ByOpening, content_of, Deed, Event, event_lines, Failed, FlatStore, Given, file_images_at, deed_writes, IsFaultAt, IsRunOf, IsSerial, IsWholeText, Job, job_desk, job_of, marks_of, names_of, printed_of, Prints, put_by, report, run, SessionState, Stands, stands, Status, Synced, DiskWord}
 use Rattle.outside.specs.declared.world.Outside.{Ghosts}
 use Rattle.desk.specs.Run.{faulted}
-use Rattle.schedule_replay.specs.Ran.{PrintsEarlier, run_text}
+use Rattle.flat_machine.specs.Serial.{serial}
+use Rattle.schedule_replay.specs.Ran.{IfInDoubt, PrintsEarlier, run_text}
+use Rattle.schedule_replay.specs.Runs.{report_lines_of}
 use Rattle.job_calls.specs.Headline.{job_opening}
 use Rattle.job_calls.specs.Below.{line_text, Open}
 use Rattle.call_status.specs.Opening.{IsStanding}
@@ -81,10 +83,18 @@ pub record RanOnScreen (given : Given) (number : ℕ) (store : FlatStore) (first
   pub put : Result ℕ Failed
   pub put_is : put_by end put
   pub printed : Prints (Some []) (Some (printed_of puts)) (report (names_of job) job.programs.items number taken rest (job_desk job first store)) put
+  -- as many puts as the report has lines
+  pub times : OnOk put (length puts ≡ length (report_lines_of (job_opening (names_of job) job number first store) taken rest))
 
 -- no call on the file failed, and no write for want of memory
 abbrev pub IsCalm : List Deed → Bool → Type 0
 IsCalm deeds starved = (starved ≡ false) × (count_by deed_failed deeds ≡ 0)
+
+-- One byte of the file decides whether the last commit is among them: with A5 there, each image that all deeds leave stands for all commits of the order.
+abbrev pub GateDecides : (number : ℕ) → FlatStore → Job → (order : List (ℕ × ℕ)) (first : List ℕ) (deeds : List Deed) → Type 0
+GateDecides number store job order first deeds =
+    (gate : ℕ) × (left : FlatStore) × (serial (begun job.programs.items job.events.items) order store ≡ Some left)
+    × LeavesLast first deeds (λ image. stands (slice_set image gate 165) ≡ Stands ((number + length order) % 2 ^ 64) left)
 
 -- A job was run so on a file that gave these bytes.
 pub record RanOnFile (starved : Bool) (given : Given) (number : ℕ) (store : FlatStore) (first : List ℕ) (deeds puts : List Deed) (order : List (ℕ × ℕ)) (end : Status) : Type 0 where
@@ -95,6 +105,8 @@ pub record RanOnFile (starved : Bool) (given : Given) (number : ℕ) (store : Fl
   pub crash : LeavesAt first deeds puts (IsPrefix (begun ran.job.programs.items ran.job.events.items) number store order [])
   -- where no call on the file failed, and memory was there for what was written past its end, no event was told otherwise, and the desk is open
   pub fine : IsCalm deeds starved → faulted ran.taken ≡ 0
+  -- where the last event ended in doubt and closed the desk, one byte decides
+  pub doubt : IfInDoubt ran.taken (run ran.job.programs.items ran.taken (job_desk ran.job first store)).closed (λ front event. GateDecides number store ran.job order first deeds)
   -- while the desk is open at the end, what all deeds leave has the journal that the lines of the events make of the one before
   pub journal : (run ran.job.programs.items ran.taken (job_desk ran.job first store)).closed ≡ false
       → LeavesLast first deeds (λ image. KeepsJournal (event_lines (names_of ran.job) ran.job.programs.items number ran.taken (job_desk ran.job first store)) (journal_in first) (journal_in image))

@@ -6,3 +6,4 @@ pub mod FileShown
 pub mod FileWords
 pub mod ScreenWords
 pub mod FileNeeds
+pub mod WordRun

@@ -1,6 +1,7 @@
 -- What the words without a file handed to the screen: their disk is one in memory.
-use Rattle.std.specs.Prelude.{◌≡◌, ◌⊎◌, ◌++◌, ◌*◌, ◌+◌, ◌<◌, ◌≤◌, ℕ, List, [], min, length, Option, Some, Result, Ok}
+use Rattle.std.specs.Prelude.{Bool, false, ◌≡◌, ◌⊎◌, ◌++◌, ◌*◌, ◌+◌, ◌<◌, ◌≤◌, ℕ, List, [], min, length, Option, Some, Result, Ok}
 use Rattle.file_runs.specs.Below.{begun, ByOpening, Command, content_of, Deed, Ended, Event, event_lines, Failed, FlatStore, Given, IsFaultAt, IsRunOf, IsSerial, IsWholeText, Job, job_desk, job_of, order_told, printed_of, Prints, run, serial_lines, SessionState, Status, DiskWord}
+use Rattle.desk.specs.Run.{faulted}
 use Rattle.job_text.specs.Big.{IsBigJob}
 use Rattle.job_text.specs.Grammar.{Content}
 use Rattle.serial_audit.specs.declared.answer.Trace.{Trace}
@@ -67,16 +68,21 @@ TracesBy bytes activation puts end = IsUntraced bytes activation end × (puts �
 abbrev pub TracedOnScreen : (activation : ℕ) → Given → (puts : List Deed) (end : Status) → Type 0
 TracedOnScreen activation given puts end = WithBundle given (puts ≡ []) (λ text. TracesBy text activation puts end) end
 
+-- A job was run so on a disk in memory: where it had memory for what was written past its end, no event was told otherwise.
+pub record RanInMemory (starved : Bool) (given : Given) (number : ℕ) (store : FlatStore) (first : List ℕ) (puts : List Deed) (order : List (ℕ × ℕ)) (end : Status) : Type 0 where
+  pub ran : RanOnScreen given number store first puts order end
+  pub fine : starved ≡ false → faulted ran.taken ≡ 0
+
 -- what `try` did on a disk that held these bytes, by its end: the job was run, or no event was, and nothing was handed to the screen
-abbrev pub TriedOnScreen : Given → (first : List ℕ) (puts : List Deed) (order : List (ℕ × ℕ)) → Option SessionState → (end : Status) → Type 0
-TriedOnScreen given first puts order session status.Done = FromAnyStore first (λ number store. RanOnScreen given number store first puts order status.Done)
-TriedOnScreen given first puts order session status.PutFault = FromAnyStore first (λ number store. RanOnScreen given number store first puts order status.PutFault)
-TriedOnScreen given first puts order session status.DiskFault = ByOpening session (FromAnyStore first (λ number store. RanOnScreen given number store first puts order status.DiskFault)) (puts ≡ [])
-TriedOnScreen given first puts order session (status.Store offset) = ByOpening session (StandsForNone first) ((puts ≡ []) × IsFaultAt first offset)
-TriedOnScreen given first puts order session _ = puts ≡ []
+abbrev pub TriedOnScreen : (starved : Bool) → Given → (first : List ℕ) (puts : List Deed) (order : List (ℕ × ℕ)) → Option SessionState → (end : Status) → Type 0
+TriedOnScreen starved given first puts order session status.Done = FromAnyStore first (λ number store. RanInMemory starved given number store first puts order status.Done)
+TriedOnScreen starved given first puts order session status.PutFault = FromAnyStore first (λ number store. RanInMemory starved given number store first puts order status.PutFault)
+TriedOnScreen starved given first puts order session status.DiskFault = ByOpening session (FromAnyStore first (λ number store. RanInMemory starved given number store first puts order status.DiskFault)) (puts ≡ [])
+TriedOnScreen starved given first puts order session (status.Store offset) = ByOpening session (StandsForNone first) ((puts ≡ []) × IsFaultAt first offset)
+TriedOnScreen starved given first puts order session _ = puts ≡ []
 
 -- The job of a load was run to its end on a disk that held these bytes, which stood for this number and this store, and its line was handed to the screen.
-pub record RanLoad (transfers : ℕ) (job : Job) (number : ℕ) (store : FlatStore) (first : List ℕ) (puts : List Deed) (order : List (ℕ × ℕ)) (end : Status) : Type 0 where
+pub record RanLoad (starved : Bool) (transfers : ℕ) (job : Job) (number : ℕ) (store : FlatStore) (first : List ℕ) (puts : List Deed) (order : List (ℕ × ℕ)) (end : Status) : Type 0 where
   -- there is one run of the desk over its events, from that store, and these are its commits, those of its activations one after another
   pub taken : List (Event × DiskWord)
   pub is_run : IsRunOf job.programs.items job.events.items (job_desk job first store) taken []
@@ -84,22 +90,24 @@ pub record RanLoad (transfers : ℕ) (job : Job) (number : ℕ) (store : FlatSto
   pub names : List (List ℕ)
   pub serial_run : IsSerial (begun job.programs.items job.events.items) number store order (event_lines names job.programs.items number taken (job_desk job first store))
       (run job.programs.items taken (job_desk job first store)).committed (run job.programs.items taken (job_desk job first store)).closed
+  -- where the disk had memory for what was written past its end, no event was told otherwise
+  pub fine : starved ≡ false → faulted taken ≡ 0
   -- its line has that run's counts, and what the last program prints in that serial run
   pub handed : Hands puts (line_for transfers (event_lines names job.programs.items number taken (job_desk job first store))) end
   pub last : last_out (event_lines names job.programs.items number taken (job_desk job first store)) ≡ last_out (serial_lines (begun job.programs.items job.events.items) number order store)
 
 -- so from whatever number and store the bytes stand for
-abbrev pub HandsLoad : (transfers : ℕ) (first : List ℕ) (puts : List Deed) (order : List (ℕ × ℕ)) (end : Status) → Type 0
-HandsLoad transfers first puts order end = (job : Job) × IsBigJob transfers job × FromAnyStore first (λ number store. RanLoad transfers job number store first puts order end)
+abbrev pub HandsLoad : (starved : Bool) (transfers : ℕ) (first : List ℕ) (puts : List Deed) (order : List (ℕ × ℕ)) (end : Status) → Type 0
+HandsLoad starved transfers first puts order end = (job : Job) × IsBigJob transfers job × FromAnyStore first (λ number store. RanLoad starved transfers job number store first puts order end)
 
 -- what `big` did, by its end; other ends don't come
-abbrev pub LoadedOnScreen : (transfers : ℕ) (first : List ℕ) (puts : List Deed) (order : List (ℕ × ℕ)) (end : Status) → Type 0
-LoadedOnScreen transfers first puts order status.Done = HandsLoad transfers first puts order status.Done
-LoadedOnScreen transfers first puts order status.PutFault = HandsLoad transfers first puts order status.PutFault
-LoadedOnScreen transfers first puts order status.DiskFault = printed_of puts ≡ []
-LoadedOnScreen transfers first puts order (status.Store offset) = (puts ≡ []) × IsFaultAt first offset
-LoadedOnScreen transfers first puts order status.NoMemory = puts ≡ []
-LoadedOnScreen transfers first puts order _ = ⊥
+abbrev pub LoadedOnScreen : (starved : Bool) (transfers : ℕ) (first : List ℕ) (puts : List Deed) (order : List (ℕ × ℕ)) (end : Status) → Type 0
+LoadedOnScreen starved transfers first puts order status.Done = HandsLoad starved transfers first puts order status.Done
+LoadedOnScreen starved transfers first puts order status.PutFault = HandsLoad starved transfers first puts order status.PutFault
+LoadedOnScreen starved transfers first puts order status.DiskFault = printed_of puts ≡ []
+LoadedOnScreen starved transfers first puts order (status.Store offset) = (puts ≡ []) × IsFaultAt first offset
+LoadedOnScreen starved transfers first puts order status.NoMemory = puts ≡ []
+LoadedOnScreen starved transfers first puts order _ = ⊥
 
 -- The lines of stops of the job, numbered from write 1 on, were handed to the screen, or a first part where a put failed.
 pub record HandsStops (job : Job) (puts : List Deed) (put : Result (Unit {0}) Failed) : Type 0 where
@@ -141,11 +149,11 @@ DrilledOnScreen given puts status.TooBig = puts ≡ []
 DrilledOnScreen given puts _ = ⊥
 
 -- A word without a file did what it does, as it ended, on a disk that held these bytes: these are its puts. The words on a file are no such.
-abbrev pub DidOnScreen : Command → Given → (first : List ℕ) (puts : List Deed) → Ended → Type 0
-DidOnScreen command.Try given first puts ended = TriedOnScreen given first puts (order_told ended.order.items) ended.session ended.status
-DidOnScreen (command.Big transfers) given first puts ended = LoadedOnScreen transfers first puts (order_told ended.order.items) ended.status
-DidOnScreen command.List given first puts ended = ListedOnScreen given puts ended.status
-DidOnScreen command.Drill given first puts ended = DrilledOnScreen given puts ended.status
-DidOnScreen command.Audit given first puts ended = AuditedOnScreen given puts ended.status
-DidOnScreen (command.Trace activation) given first puts ended = TracedOnScreen activation given puts ended.status
-DidOnScreen _ given first puts ended = Unit {0}
+abbrev pub DidOnScreen : (starved : Bool) → Command → Given → (first : List ℕ) (puts : List Deed) → Ended → Type 0
+DidOnScreen starved command.Try given first puts ended = TriedOnScreen starved given first puts (order_told ended.order.items) ended.session ended.status
+DidOnScreen starved (command.Big transfers) given first puts ended = LoadedOnScreen starved transfers first puts (order_told ended.order.items) ended.status
+DidOnScreen starved command.List given first puts ended = ListedOnScreen given puts ended.status
+DidOnScreen starved command.Drill given first puts ended = DrilledOnScreen given puts ended.status
+DidOnScreen starved command.Audit given first puts ended = AuditedOnScreen given puts ended.status
+DidOnScreen starved (command.Trace activation) given first puts ended = TracedOnScreen activation given puts ended.status
+DidOnScreen starved _ given first puts ended = Unit {0}

@@ -2,5 +2,7 @@
 #![tactic(auto)]
 
 mod on_file;
+mod word_run;
 
 pub use on_file::{console_on_file, console_on_nothing, console_on_screen};
+pub use word_run::{RanOn, run_words};

@@ -6,15 +6,14 @@ ghost use Rattle.std.specs.Process.{exit_status};
 ghost use Rattle.console.specs.Words.{IsForm};
 ghost use Rattle.console.specs.Wants.{source_for};
 ghost use Rattle.console.specs.declared.command_words.Command.{Command};
-ghost use Rattle.file_runs.specs.FileWords.{IsOnFile};
 ghost use Rattle.call_status.specs.Statuses.{status_number, error_text};
 ghost use Rattle.real_files.specs.Deeds as deed;
 ghost use Rattle.real_files.specs.Shown.{printed_of};
 
-use console::{DiskKind, Ended, Status, disk_of, path_of, reads_source, status_text, try_store};
-use file_runs::{console_on_file, console_on_nothing, console_on_screen};
+use console::{DiskKind, Ended, Status, disk_of, path_of, reads_source, status_text};
+use file_runs::run_words;
 use outside::Failed;
-use real_files::{FileUse, RawScreen, ReadSource, StdFile, StdOut, may_spoil};
+use real_files::{RawScreen, ReadSource, StdOpener, StdOut, may_spoil};
 use std::alloc::AllocError;
 use std::process::ExitCode;
 use std::{env, io};
@@ -64,65 +63,17 @@ fn code_of(status: &Status) -> ExitCode
 fn status_of(rt: &HostRuntime, words: &[String]) -> Status {
     match run(rt, words) {
         Ok(ended) => ended.status,
-        Err(status) => status,
+        Err(_) => Status::NoMemory,
     }
 }
 
-/// The console on the real source and screen, and on the disk that the words want.
-fn run(rt: &HostRuntime, words: &[String]) -> Result<Ended, Status> {
-    let alloc = rt.alloc();
+/// The console on the real source, files and screen.
+fn run(rt: &HostRuntime, words: &[String]) -> Result<Ended, AllocError> {
     // The source comes first: until it is read, another may have the file.
     let mut job = source_of(rt, words)?;
-    match disk_of(words) {
-        DiskKind::Looked => on_file(rt, words, &mut job, FileUse::Look),
-        DiskKind::Changed => on_file(rt, words, &mut job, FileUse::Change),
-        DiskKind::Made => on_file(rt, words, &mut job, FileUse::Make),
-        DiskKind::OfTry => on_bytes(rt, words, &mut job, try_store(alloc)?),
-        DiskKind::Empty => on_bytes(rt, words, &mut job, Vec::new(alloc)),
-    }
-}
-
-/// The console on the file that the words name.
-fn on_file(
-    rt: &HostRuntime,
-    words: &[String],
-    job: &mut ReadSource,
-    wanted: FileUse,
-) -> Result<Ended, Status>
-    requires { (form : Command) → IsForm form words.now → IsOnFile form }
-{
-    let path = String::from_str(rt.alloc(), path_of(words))?;
-    match StdFile::open(rt.clone()?, path, wanted) {
-        Ok((file, bytes)) => {
-            let screen = StdOut::new(rt.clone()?);
-            let (ended, _, _, _) = console_on_file(rt.alloc(), words, job, file, bytes, screen);
-            Ok(ended)
-        }
-        Err(error) if error.kind() == io::ErrorKind::OutOfMemory => Err(Status::NoMemory),
-        Err(_) => on_nothing(rt, words, job),
-    }
-}
-
-/// The console on a disk in memory that holds these bytes, and the standard output.
-fn on_bytes(
-    rt: &HostRuntime,
-    words: &[String],
-    job: &mut ReadSource,
-    bytes: Vec<u8>,
-) -> Result<Ended, Status>
-    requires { (form : Command) → IsForm form words.now → ¬ (IsOnFile form) }
-{
+    let mut files = StdOpener::new(rt.clone()?);
     let screen = StdOut::new(rt.clone()?);
-    let (ended, _) = console_on_screen(rt.alloc(), words, job, bytes, screen);
-    Ok(ended)
-}
-
-/// The console on a disk that isn't there, and the standard output.
-fn on_nothing(rt: &HostRuntime, words: &[String], job: &mut ReadSource) -> Result<Ended, Status>
-    requires { (form : Command) → IsForm form words.now → IsOnFile form }
-{
-    let screen = StdOut::new(rt.clone()?);
-    let (ended, _) = console_on_nothing(rt.alloc(), words, job, screen);
+    let (ended, _, _) = run_words(rt.alloc(), words, &mut job, &mut files, screen)?;
     Ok(ended)
 }
 

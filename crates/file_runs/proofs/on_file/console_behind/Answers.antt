@@ -23,9 +23,9 @@ returns-clause-did g c form is first deeds puts starved behind =
     (ran.ensures.did form is)
 
 pub returns-clause-shown : goal.returns-clause-shown
-returns-clause-shown g c form is first puts behind =
+returns-clause-shown g c form is first puts starved behind calm =
     let ran = c.console in
-    did_on_screen g.W.Outside c.args.outside.now ran.new.outside first puts behind (given g.S.Source c.args.job.now ran.new.job) ran.result form (ran.ensures.did form is)
+    did_on_screen g.W.Outside c.args.outside.now ran.new.outside first puts behind starved calm (given g.S.Source c.args.job.now ran.new.job) ran.result form (ran.ensures.did form is)
 
 pub returns-clause-complete : goal.returns-clause-complete
 returns-clause-complete g c form is first honest held has =

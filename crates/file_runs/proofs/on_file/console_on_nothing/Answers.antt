@@ -1,4 +1,4 @@
-use Rattle.file_runs.proofs.Common.{◌≡◌, ℕ, List, [], length, sym, ◌∙◌, ap, subst, refl, arith, Some, None, Deed, Moment, LeftAt, file_images_after, file_images_at, printed_of, marks_of, given, DidOnFile}
+use Rattle.file_runs.proofs.Common.{◌≡◌, List, [], length, sym, ◌∙◌, ap, subst, refl, arith, Some, None, Deed, file_images_after, file_images_at, printed_of, marks_of, given, DidOnFile}
 use Rattle.std.proofs.lemmas.List.{take_all}
 use Rattle.std.specs.Prelude.{true, false}
 use Rattle.outside.specs.ClockLaws.{left_now}
@@ -6,7 +6,30 @@ use Rattle.real_files.specs.Deeds.{file_after}
 use Rattle.real_files.specs.ShownLaws.{marks_in_order}
 use Rattle.real_files.specs.declared.absent_disk.AbsentDisk.{AbsentDisk}
 use Rattle.file_runs.proofs.FileLemmas.{marks_counted}
+use Rattle.real_files.specs.Deeds.{deed_failed}
+use Rattle.file_runs.proofs.Common.{count_by}
 use Rattle.file_runs.proofs.on_file.console_on_nothing.Goals as goal
+
+-- nothing was wanting but the file
+pub returns-clause-why : goal.returns-clause-why
+returns-clause-why g c =
+    let made = c.new-outside in
+    let ran = c.console_behind-ended in
+    let screen = ran.new.outside.screen in
+    let puts_of = g.R.RawScreen.puts in
+    let noted = ap (λ noted. noted.faults) made.ensures.screen ∙ c.new-noted.ensures.faults in
+    let puts_are : puts_of c.into_screen.result ≡ puts_of screen.screen = ap puts_of (c.into_screen.ensures ∙ ap (λ noted. noted.screen) c.into_parts-shown.ensures.screen) in
+    let starved : true ≡ false → ⊥ = λ is. let no : ⊥ = cc in no in
+    record {
+      usage = ran.ensures.usage;
+      only = ran.ensures.only;
+      read = ran.ensures.read;
+      disk = λ calm. absurd (starved calm.0);
+      put = λ none is.
+          let rose = ran.ensures.faults.outside.put is in
+          absurd (omega (arith, noted, screen.calm (ap (count_by deed_failed) (sym puts_are) ∙ none), rose));
+      complete = λ form is has calm_source calm none. absurd (starved calm.0);
+    }
 
 pub returns-clause-did : goal.returns-clause-did
 returns-clause-did g c form is =

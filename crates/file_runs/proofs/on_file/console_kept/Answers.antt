@@ -1,13 +1,27 @@
-use Rattle.file_runs.proofs.Common.{◌≡◌, ℕ, List, length, sym, ◌∙◌, ap, subst, refl, Some, LeftAt, Moment, Deed, file_images_at, deed_writes, printed_of, marks_of, count_by, given, DidOnFile}
+use Rattle.file_runs.proofs.Common.{◌≡◌, ℕ, List, length, sym, ◌∙◌, ap, subst, refl, arith, Some, LeftAt, Moment, Deed, file_images_at, deed_writes, printed_of, marks_of, count_by, given, DidOnFile, DidOnScreen}
 use Rattle.outside.specs.ClockLaws.{left_now}
 use Rattle.outside.specs.Origin.{Origin}
 use Rattle.real_files.specs.ShownLaws.{marks_in_order}
 use Rattle.file_runs.proofs.FileLemmas.{marks_counted}
-use Rattle.file_runs.specs.FileRun.{IsCalm}
-use Rattle.file_runs.proofs.Common.{arith, Status}
 use Rattle.real_files.specs.Deeds.{deed_failed, file_after}
-use Rattle.outside.specs.Causes.{Rose}
-use Rattle.file_runs.proofs.on_file.console_on_file.Goals as goal
+use Rattle.file_runs.proofs.on_file.console_kept.Goals as goal
+
+pub returns-clause-why : goal.returns-clause-why
+returns-clause-why g c =
+    let made = c.outside_of-outside in
+    let ran = c.console_behind-ended in
+    let parts = c.raw_of-file in
+    record {
+      usage = ran.ensures.usage;
+      only = ran.ensures.only;
+      read = ran.ensures.read;
+      disk = λ calm is. let rose = ran.ensures.faults.outside.disk is in absurd (omega (arith, made.ensures.faults, parts.ensures.disk_calm calm.0 calm.1, rose));
+      put = λ none is. let rose = ran.ensures.faults.outside.put is in absurd (omega (arith, made.ensures.put_faults, parts.ensures.put_calm none, rose));
+      complete = λ form is has calm_source calm none.
+          ran.ensures.complete form is c.args.bytes.items made.ensures.honest made.ensures.held has calm_source
+          (λ rose. absurd (omega (arith, made.ensures.faults, parts.ensures.disk_calm calm.0 calm.1, rose)))
+          (λ rose. absurd (omega (arith, made.ensures.put_faults, parts.ensures.put_calm none, rose)));
+    }
 
 pub returns-clause-same : goal.returns-clause-same
 returns-clause-same g c form is on_file =
@@ -45,20 +59,14 @@ returns-clause-did g c form is on_file =
     subst (λ (these : List Deed). this (g.F.RawFile.deeds parts.result.0) these) (ap g.R.RawScreen.puts (sym parts.ensures.screen))
     (subst (λ (these : List Deed). this these puts) (ap g.F.RawFile.deeds (sym parts.ensures.file)) did)
 
-pub returns-clause-disk : goal.returns-clause-disk
-returns-clause-disk g c calm is =
-    let rose = c.console_behind-ended.ensures.faults.outside.disk is in
-    absurd (omega (arith, c.outside_of-outside.ensures.faults, c.raw_of-file.ensures.disk_calm calm.0 calm.1, rose))
-
-pub returns-clause-put : goal.returns-clause-put
-returns-clause-put g c none is =
-    let rose = c.console_behind-ended.ensures.faults.outside.put is in
-    absurd (omega (arith, c.outside_of-outside.ensures.put_faults, c.raw_of-file.ensures.put_calm none, rose))
-
-pub returns-clause-complete : goal.returns-clause-complete
-returns-clause-complete g c form is has calm_source calm none =
+pub returns-clause-shown : goal.returns-clause-shown
+returns-clause-shown g c form is unfailed =
     let made = c.outside_of-outside in
+    let ran = c.console_behind-ended in
     let parts = c.raw_of-file in
-    c.console_behind-ended.ensures.complete form is c.args.bytes.items made.ensures.honest made.ensures.held has calm_source
-    (λ rose. absurd (omega (arith, made.ensures.faults, parts.ensures.disk_calm calm.0 calm.1, rose)))
-    (λ rose. absurd (omega (arith, made.ensures.put_faults, parts.ensures.put_calm none, rose)))
+    let puts = g.R.RawScreen.puts ran.new.outside.screen.screen in
+    let bytes = c.args.bytes.items in
+    let did = ran.ensures.shown form is bytes puts parts.result.2
+    (record { honest = made.ensures.honest; held = made.ensures.held; none = made.ensures.printed; shown = refl; left = made.ensures.left; unput = ap (λ (moment : Moment). moment.puts) made.ensures.moment; count = marks_counted 0 puts })
+    (λ fed rose. absurd (omega (arith, made.ensures.faults, parts.ensures.disk_calm fed unfailed, rose))) in
+    subst (λ (these : List Deed). DidOnScreen parts.result.2 form (given g.S.Source c.args.job.now ran.new.job) bytes these ran.result) (ap g.R.RawScreen.puts (sym parts.ensures.screen)) did
