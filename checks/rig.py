@@ -124,3 +124,18 @@ def launcher_of(program: str, folder: str) -> str:
     shutil.copy(TOP / "docs/FORMATS.md", f"{folder}/docs/FORMATS.md")
     os.symlink(program, f"{folder}/program")
     return f"{folder}/romp801"
+
+
+def children_of(parent: int) -> List[int]:
+    """The processes that a process began, and that are there."""
+    found = []
+    for it in os.listdir("/proc"):
+        if it.isdigit():
+            try:
+                with open(f"/proc/{it}/stat", encoding="latin-1") as file:
+                    words = file.read().rsplit(")", 1)[1].split()
+            except (OSError, IndexError):
+                continue
+            if int(words[1]) == parent:
+                found.append(int(it))
+    return found

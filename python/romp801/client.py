@@ -14,14 +14,19 @@ under that name, also over kills.
 from __future__ import annotations
 
 import contextlib
-import os
+import json
+import select
+import socket
+import stat
+import time
+import uuid
 from typing import Any, Callable, Iterator, Mapping, Optional, Protocol, TypeVar, Union
 
 from romp801 import files, program
 from romp801.errors import WRONG_USE, Failure
 from romp801.ledger import Ledger
 from romp801.records import TEXT, Field, Place, Records, Value, mistaken
-from romp801.report import Commit, Ended, Journal
+from romp801.report import Commit, Ended, Journal, line_of
 from romp801.request import (
     Apply,
     Asked,
@@ -38,6 +43,10 @@ from romp801.request import (
 )
 
 ATTEMPTS = 1000
+BLOCK = 256
+"""Bytes that are read of a served store at once: a line of it, or two."""
+READ = 65536
+"""Bytes that a transaction over a served store may read, at most."""
 Found = TypeVar("Found")
 
 
@@ -88,6 +97,14 @@ class Transaction:
             place = place[0]
         place.records.fits(self._source.segments)
         return Row(self, place)
+
+    def fetch(self, *places: Union[Place, Records]) -> None:
+        """Reads records ahead, all of one moment: a served store is asked once, and not for each as it is used."""
+        for it in places:
+            first = it if isinstance(it, Records) else it.records
+            first.fits(self._source.segments)
+            start, size = (it.start, it.end - it.start) if isinstance(it, Records) else (it.offset, it.records.size)
+            self._source.bytes_at(first.segment, start, size)
 
     def _room(self, segment: int, offset: int, count: int) -> None:
         """Raises Failure where a store has no such bytes."""
@@ -250,9 +267,9 @@ class Store:
             done = self.answered(f"{name}.0")
             if done is not None:
                 return _committed(done, None)
-            t = Transaction(self.source())
-            function(t)
             try:
+                t = Transaction(self.source())
+                function(t)
                 return _committed(self.ask([t.request()], name)[0], t)
             except Conflict:
                 if left == 1:
@@ -358,7 +375,159 @@ class FileStore(Store):
             self.ledger = None
 
 
+class Moment:
+    """Where a transaction over a served store reads: blocks of bytes, all of one moment."""
+
+    def __init__(self, store: ServedStore) -> None:
+        self.store = store
+        self.number: Optional[int] = None
+        self.blocks: dict[tuple[int, int], bytes] = {}
+
+    @property
+    def segments(self) -> Mapping[int, int]:
+        """The bytes of each segment."""
+        return self.store.segments
+
+    def bytes_at(self, segment: int, offset: int, count: int) -> bytes:
+        """Bytes of a segment, which has them. Raises Conflict where what was read before has changed since."""
+        first = offset - offset % BLOCK
+        keys = [(segment, at) for at in range(first, offset + count, BLOCK)]
+        missing = [it for it in keys if it not in self.blocks]
+        if missing:
+            self._fetch(missing)
+        return b"".join(self.blocks[it] for it in keys)[offset - first : offset - first + count]
+
+    def _fetch(self, keys: list[tuple[int, int]]) -> None:
+        """Reads blocks, and those before anew where another moment has come."""
+        number, found = self.store.read(keys)
+        if self.number is not None and number != self.number:
+            number, found = self.store.read([*keys, *self.blocks])
+            if any(found[it] != data for it, data in self.blocks.items()):
+                raise Conflict("another changed what this transaction read")
+        self.number = number
+        self.blocks.update(found)
+
+
+class ServedStore(Store):
+    """A store that tools/serve has open. Where the server is killed, or the disk fails for a moment, what was asked is
+    asked again under its name; `seconds` without an answer are a Failure."""
+
+    def __init__(self, path: str, seconds: float = 60.0) -> None:
+        self.path, self.seconds = path, seconds
+        self.link: Optional[socket.socket] = None
+        self.left = b""
+        self.session = uuid.uuid4().hex
+        self.asked = 0
+        self.segments: dict[int, int] = {}
+        self.segments = {int(it): size for it, size in self._one({"stat": True})["segments"].items()}
+
+    def number(self) -> int:
+        """The store's number: how many commits it has had."""
+        return int(self._one({"stat": True})["number"])
+
+    def source(self) -> Moment:
+        """Where a transaction that begins now reads."""
+        return Moment(self)
+
+    def read(self, keys: list[tuple[int, int]]) -> tuple[int, dict[tuple[int, int], bytes]]:
+        """Blocks of the store, all of one moment, and its number."""
+        wanted = [[segment, at, min(BLOCK, self.segments[segment] - at)] for segment, at in keys]
+        if sum(count for _, _, count in wanted) > READ:
+            raise mistaken(f"a transaction over a served store reads at most {READ} bytes")
+        answer = self._one({"read": wanted})
+        return int(answer["number"]), dict(zip(keys, map(bytes.fromhex, answer["bytes"])))
+
+    def answered(self, name: str) -> Optional[Ended]:
+        """How a request under this name ended, or None."""
+        return _end(self._one({"answered": name})["end"])
+
+    def ask(self, requests: list[Request], name: Optional[str] = None) -> list[Ended]:
+        """Runs requests to their ends. Under a name each is answered once for ever."""
+        if name is None:
+            self.asked += 1
+            name = f"{self.session}.{self.asked}"
+        messages: list[dict[str, Any]] = []
+        for place, it in enumerate(requests):
+            what = {"run": [it.name, *it.values]} if isinstance(it, Run) else it._asdict()
+            messages.append({"name": f"{name}.{place}", **what})
+        return [end for end in (_end(it["end"]) for it in self._exchange(messages)) if end is not None]
+
+    def _one(self, message: dict[str, Any]) -> dict[str, Any]:
+        """The answer of a message."""
+        return self._exchange([message])[0]
+
+    def _exchange(self, messages: list[dict[str, Any]]) -> list[dict[str, Any]]:
+        """The answers of messages, in their order. What isn't answered is sent again over a new connection."""
+        answers: dict[int, dict[str, Any]] = {}
+        until = time.monotonic() + self.seconds
+        while len(answers) < len(messages):
+            had = len(answers)
+            try:
+                self._send({place: it for place, it in enumerate(messages) if place not in answers}, answers)
+                why = "it can't tell yet"
+            except OSError as error:
+                self.close()
+                why = error.strerror or str(error)
+            if len(answers) > had:
+                until = time.monotonic() + self.seconds
+            if len(answers) < len(messages):
+                if time.monotonic() > until:
+                    raise Failure(f"nobody answers at {self.path}: {why}")
+                time.sleep(0.05)
+        for place, it in enumerate(messages):
+            if "error" in answers[place]:
+                raise Failure(str(answers[place]["error"]), WRONG_USE)
+        return [answers[place] for place in range(len(messages))]
+
+    def _send(self, messages: dict[int, dict[str, Any]], answers: dict[int, dict[str, Any]]) -> None:
+        """Sends messages and takes their answers. It reads while it sends: both may be long."""
+        if self.link is None:
+            self.left = b""
+            self.link = socket.socket(socket.AF_UNIX, socket.SOCK_STREAM)
+            self.link.connect(self.path)
+            self.link.setblocking(False)
+        out = b"".join(json.dumps({"tag": place, **it}).encode() + b"\n" for place, it in messages.items())
+        waiting = set(messages)
+        while waiting:
+            can_read, can_write, _ = select.select([self.link], [self.link] if out else [], [], self.seconds)
+            if not can_read and not can_write:
+                raise TimeoutError(f"no answer in {self.seconds:g} seconds")
+            if can_write:
+                out = out[self.link.send(out[: 1 << 16]) :]
+            for answer in self._answers() if can_read else ():
+                if answer["tag"] is None:
+                    raise Failure(str(answer.get("error") or answer.get("again")))
+                waiting.discard(answer["tag"])
+                if "again" not in answer:
+                    answers[answer["tag"]] = answer
+
+    def _answers(self) -> Iterator[dict[str, Any]]:
+        """The whole lines that came; raises ConnectionError where the server has gone."""
+        assert self.link is not None
+        data = self.link.recv(1 << 16)
+        if not data:
+            raise ConnectionError("the server has gone")
+        *lines, self.left = (self.left + data).split(b"\n")
+        return map(json.loads, lines)
+
+    def close(self) -> None:
+        """Ends the connection."""
+        if self.link is not None:
+            self.link.close()
+            self.link = None
+
+
+def _end(line: Optional[str]) -> Optional[Ended]:
+    """The end that a line tells."""
+    found = None if line is None else line_of(line)
+    return found if isinstance(found, Ended) else None
+
+
 def connect(path: str, programs: Optional[str] = None, romp801: Optional[str] = None) -> Store:
-    """A store's file. `programs` is a job whose programs can be run by name, and `romp801` names the program; else it
-    is found as docs/OPERATION.md says. Raises Failure where there is no store, or no program."""
+    """A store's file, or the socket of a server of one (tools/serve). Of a file `programs` is a job whose programs can
+    be run by name, and `romp801` names the program; else it is found as docs/OPERATION.md says. Raises Failure where
+    there is no store, or nobody answers."""
+    found = files.look(path)
+    if found is not None and stat.S_ISSOCK(found.st_mode):
+        return ServedStore(path)
     return FileStore(path, programs, romp801)

@@ -26,7 +26,7 @@ import os
 from typing import Any, Iterable, Optional
 
 from romp801 import files, prints, program
-from romp801.errors import Failure, named
+from romp801.errors import WRONG_USE, Failure, named
 from romp801.forms import Line
 from romp801.log import Log
 from romp801.progress import sum_of
@@ -125,7 +125,8 @@ class Ledger(Log):
         if reached != number:
             raise Failure(
                 f"{self.store} is at {number}, and the jobs in {self.folder} don't lead there from "
-                f"{self.job['number']}: others ran it, or it was replaced. Look at the store, and remove {self.folder} to begin anew"
+                f"{self.job['number']}: others ran it, or it was replaced. Look at the store, and remove "
+                f"{self.folder} to begin anew"
             )
         verdict = self._audit(text, told, opening)
         compares = set(self.job["apply"])
@@ -186,10 +187,22 @@ class Ledger(Log):
             raise named(error, self.folder) from error
 
     def run(self, asked: list[Asked], rounds: int, take: Take) -> None:
-        """Runs the job of these requests, and hands each end over as its line is put. Raises Failure where what came of
-        them isn't known, or where the job can't be noted: then nothing of it was run."""
+        """Runs the job of these requests, and hands each end over as its line is put; one whose name was answered
+        isn't run. Raises Failure where what came of them isn't known, or where the job can't be noted: then nothing of
+        it was run."""
         if self.job is not None:
             self._settle()
+        left = []
+        for place, it in enumerate(asked):
+            if it.name in self.answers:
+                take(place, self.answers[it.name])
+            else:
+                left.append(place)
+        if left:
+            self._run([asked[place] for place in left], rounds, lambda place, end: take(left[place], end))
+
+    def _run(self, asked: list[Asked], rounds: int, take: Take) -> None:
+        """Runs the job of requests whose names weren't answered."""
         if self.keep is not None or len(self.jobs) >= self.copy_after:
             self.copy()
         text = self.front.job([it.request for it in asked], rounds)
@@ -207,6 +220,8 @@ class Ledger(Log):
             if is_final(end) and not ended[place]:
                 ended[place] = True
                 if place not in compares or not is_conflict(end):
+                    # (it is known from here on: should its job be settled, it ended so)
+                    self._answer(asked[place].name, end)
                     ends.append((asked[place].name, end))
                 take(place, end)
 
@@ -220,7 +235,7 @@ class Ledger(Log):
             return
         if told.status == program.JOB:
             self._over([], number, ran=False)
-            raise Failure(f"the job was refused: {told.errors.decode(errors='replace').strip()}")
+            raise Failure(f"the job was refused: {told.errors.decode(errors='replace').strip()}", WRONG_USE)
         self._settle()
         for place, it in enumerate(asked):
             if not ended[place] and it.name in self.answers:
@@ -233,15 +248,20 @@ class Ledger(Log):
 
     def _over(self, ends: list[tuple[str, Ended]], number: int, ran: bool = True) -> None:
         """The job is over: that is noted with the next record."""
-        over = self._record(ends, number, ran)
-        self.apply(over)
-        self.pending.append(over)
+        self.job, self.number = None, number
+        if not ran:
+            self.jobs.pop()
+        for name, end in ends:
+            self._answer(name, end)
+        self.pending.append(self._record(ends, number, ran))
 
 
 def keep_job(folder: str, opening: bytes, number: int, text: bytes, report: bytes) -> None:
     """Keeps a job for audits, with the store before it, of this number, and its report: in a folder whose name begins
-    with the number."""
-    folder = os.path.join(folder, f"{number:020}-{sum_of(text)[:8]}")
+    with the number, and then has that at its end, so that the store before the next one in the order of names is the
+    one after it."""
+    end = Report.read(report).number
+    folder = os.path.join(folder, f"{number:020}-{end or number:020}-{sum_of(text)[:8]}")
     try:
         files.make_folder(folder)
     except OSError as error:

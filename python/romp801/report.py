@@ -227,6 +227,8 @@ class NoSegment(Refused):
 ENDS = (Commit, Check, Victim, Journal, Disk, Doubt, Lost, Left, Busy, NoSegment)
 LINES = (*ENDS, Open, Begin, Idle, Turn, Cycle, Wait, Closed, Stored, Finish)
 _FORMS = Forms(*LINES)
+_COMMON: tuple[type[Line], ...] = (Begin, Turn, Wait, Idle)
+_OTHERS = frozenset(it.form.split(" ")[0].encode() for it in _COMMON)
 
 
 def line_of(text: str) -> Line:
@@ -235,7 +237,9 @@ def line_of(text: str) -> Line:
 
 
 def end_of(text: bytes) -> Optional[Ended]:
-    """The end that a line of the program's output tells, or None."""
+    """The end that a line of the program's output tells, or None. Most lines tell of none, and aren't looked at."""
+    if text.split(b" ", 1)[0] in _OTHERS:
+        return None
     found = line_of(text.decode("latin-1").rstrip("\n"))
     return found if isinstance(found, Ended) else None
 

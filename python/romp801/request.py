@@ -237,6 +237,7 @@ class Queue:
     def __init__(self, front: Front) -> None:
         self.front = front
         self.waiting: collections.deque[tuple[Asked, int]] = collections.deque()
+        self.running: list[Asked] = []
 
     def put(self, asked: Asked) -> None:
         """One more waits."""
@@ -245,7 +246,7 @@ class Queue:
     def work(self, run: Callable[[list[Asked], int, Take], None], told: Callable[[Asked, Ended], None]) -> None:
         """Runs one job of those that wait: as many as one has room for, or one alone that didn't end in others, with as
         many turns as one gets. What doesn't end then never does, and is told as left. The others that didn't end wait
-        again. Where the job fails all of it has left the queue."""
+        again. Where the job fails all of it, which is `running`, has left the queue."""
         is_alone = bool(self.waiting) and self.waiting[0][1] >= AGAIN
         batch = self._batch(is_alone)
         ended: set[int] = set()
@@ -255,7 +256,8 @@ class Queue:
             ended.add(place)
             told(batch[place][0], end)
 
-        run([it for it, _ in batch], job.SIDE if is_alone else 1, take)
+        self.running = [it for it, _ in batch]
+        run(self.running, job.SIDE if is_alone else 1, take)
         left = [(it, times + 1) for place, (it, times) in enumerate(batch) if place not in ended]
         if is_alone and left:
             told(left[0][0], Left(1))
