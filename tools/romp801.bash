@@ -53,8 +53,16 @@ _romp801_script() {
         options='--help --copy --wait --program'
         values='--wait'
         ;;
+    dump | romp801-dump)
+        options='--help --wait'
+        values='--wait'
+        ;;
     ends | romp801-ends)
         options='--help --quiet --json'
+        values=''
+        ;;
+    load | romp801-load)
+        options='--help --program'
         values=''
         ;;
     move | romp801-move)
@@ -63,6 +71,14 @@ _romp801_script() {
         ;;
     restore | romp801-restore)
         options='--help --keep --wait'
+        values='--wait'
+        ;;
+    serve | romp801-serve)
+        options='--help --mode --folder --keep --ship --wait --program'
+        values='--ship --wait'
+        ;;
+    show | romp801-show)
+        options='--help --all --json --wait'
         values='--wait'
         ;;
     stat | romp801-stat)
@@ -95,15 +111,27 @@ complete -o filenames -F _romp801_script romp801-addresses \
     romp801-catch-up \
     tools/catch-up \
     ./tools/catch-up \
+    romp801-dump \
+    tools/dump \
+    ./tools/dump \
     romp801-ends \
     tools/ends \
     ./tools/ends \
+    romp801-load \
+    tools/load \
+    ./tools/load \
     romp801-move \
     tools/move \
     ./tools/move \
     romp801-restore \
     tools/restore \
     ./tools/restore \
+    romp801-serve \
+    tools/serve \
+    ./tools/serve \
+    romp801-show \
+    tools/show \
+    ./tools/show \
     romp801-stat \
     tools/stat \
     ./tools/stat \
