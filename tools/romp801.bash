@@ -69,6 +69,10 @@ _romp801_script() {
         options='--help --wait --program'
         values='--wait'
         ;;
+    page | romp801-page)
+        options='--help --job --opening --program'
+        values=''
+        ;;
     restore | romp801-restore)
         options='--help --keep --wait'
         values='--wait'
@@ -123,6 +127,9 @@ complete -o filenames -F _romp801_script romp801-addresses \
     romp801-move \
     tools/move \
     ./tools/move \
+    romp801-page \
+    tools/page \
+    ./tools/page \
     romp801-restore \
     tools/restore \
     ./tools/restore \

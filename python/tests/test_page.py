@@ -1,0 +1,59 @@
+"""Pages of reports: their steps, over all reports that the repository has."""
+from __future__ import annotations
+
+import json
+import re
+import unittest
+
+from romp801 import page, report
+from romp801.prints import Touch
+from romp801.report import NoReport
+from tests import tables
+
+
+class Steps(unittest.TestCase):
+    """The steps of reports."""
+
+    def test_all(self) -> None:
+        """Each line of each report stands in one step, with its words, and each activation ends as its line says."""
+        for name, text in tables.reports():
+            found = report.Report.read(text.encode())
+            steps = page.Steps(found.lines)
+            self.assertEqual("".join(f"{line}\n" for it in steps.steps for line in it.text), text, name)
+            for it in steps.steps:
+                self.assertEqual(len(it.text), len(it.said))
+                self.assertTrue(all(it.said))
+            self.assertEqual(steps.steps[-1].active, [])
+            for number, end in found.ends.items():
+                how = f"check {end.code}" if isinstance(end, report.Check) else end.word
+                self.assertEqual(steps.activations[number].how, how)
+            # (no two that are active at one step share a lane)
+            for it in steps.steps:
+                lanes = [steps.activations[who].lane for who, _, _ in it.active]
+                self.assertEqual(len(lanes), len(set(lanes)))
+
+    def test_cut(self) -> None:
+        """A report that is cut at any line has a page; a line of nobody has none."""
+        lines = list(report.read(dict(tables.reports())["queue.report"]))
+        for length in range(1, len(lines)):
+            self.assertGreater(len(page.Steps(lines[:length]).steps), 0)
+        for line in (report.Turn(9, 1, 0, 0), report.Wait(9, (1,)), report.Victim(9), report.Commit(9, 1, 1, b"")):
+            with self.assertRaises(NoReport) as raised:
+                page.Steps([*lines[:3], line])
+            self.assertEqual(raised.exception.place, 4)
+
+    def test_page(self) -> None:
+        """What a page is told can't end its script, and it may ask no network."""
+        text = dict(tables.reports())["one-add.report"].encode()
+        made = page.page("</script><b>", report.Report.read(text), {1: [Touch(2, "r", 0)]})
+        self.assertIn("default-src 'none'", made)
+        self.assertNotIn("</script><b>", made)
+        self.assertNotIn("http", made.replace("http-equiv", ""))
+        data = re.search(r'<script id="data" type="application/json">(.*?)</script>', made)
+        assert data
+        told = json.loads(data[1])
+        self.assertEqual((told["title"], told["traces"]), ("</script><b>", {"1": [[2, "r", "0"]]}))
+
+
+if __name__ == "__main__":
+    unittest.main()
