@@ -40,7 +40,7 @@ fn console_behind<S: Source, W: Outside>(
 
 /// The console on a file that gave these bytes, and a screen: nothing was asked of them yet. They are handed back; where a call on the
 /// file failed, that was the last. The last of the answer says whether there was no memory for what was written past the file's end.
-fn console_kept<S: Source, F: RawFile, R: RawScreen>(
+pub fn console_on_file<S: Source, F: RawFile, R: RawScreen>(
     alloc: Global,
     words: &[String],
     job: &mut S,
@@ -63,28 +63,6 @@ fn console_kept<S: Source, F: RawFile, R: RawScreen>(
     (ended, file, screen, starved)
 }
 
-/// The console on a file that gave these bytes, and a screen: nothing was asked of them yet. They are handed back; where a call on the
-/// file failed, that was the last. The last of the answer says whether there was no memory for what was written past the file's end.
-pub fn console_on_file<S: Source, F: RawFile, R: RawScreen>(
-    alloc: Global,
-    words: &[String],
-    job: &mut S,
-    file: F,
-    bytes: Vec<u8>,
-    screen: R,
-) -> (Ended, F, R, bool)
-    requires words { (form : Command) → IsForm form words.now → IsOnFile form }
-    requires first { F.first file ≡ bytes.items }
-    requires deeds { F.deeds file ≡ [] }
-    requires puts { R.puts screen ≡ [] }
-    ensures why { WhyEnded words.now (given S.Source job.old job.new) bytes.items (F.deeds result.1) (R.puts result.2) result.3 result.0 }
-    ensures same { (form : Command) → IsForm form words.now → IsOnFile form → F.first result.1 ≡ bytes.items }
-    ensures stops { StopsAtFailure (F.deeds result.1) }
-    ensures did { (form : Command) → IsForm form words.now → IsOnFile form → DidOnFile result.3 form (given S.Source job.old job.new) bytes.items (F.deeds result.1) (R.puts result.2) result.0 }
-{
-    console_kept(alloc, words, job, file, bytes, screen)
-}
-
 /// The console on a disk in memory that holds these bytes, and a screen to which nothing was handed yet. The screen is handed back. The last of the
 /// answer says whether there was no memory for what was written past the bytes' end; no other call on the disk fails.
 pub fn console_on_screen<S: Source, R: RawScreen>(
@@ -94,13 +72,12 @@ pub fn console_on_screen<S: Source, R: RawScreen>(
     bytes: Vec<u8>,
     screen: R,
 ) -> (Ended, R, bool)
-    requires words { (form : Command) → IsForm form words.now → ¬ (IsOnFile form) }
-    requires puts { R.puts screen ≡ [] }
+    requires { R.puts screen ≡ [] }
     ensures why { WhyEnded words.now (given S.Source job.old job.new) bytes.items [] (R.puts result.1) result.2 result.0 }
     ensures did { (form : Command) → IsForm form words.now → DidOnScreen result.2 form (given S.Source job.old job.new) bytes.items (R.puts result.1) result.0 }
 {
     let file = MemoryFile::new(&bytes);
-    let (ended, file, screen, starved) = console_kept(alloc, words, job, file, bytes, screen);
+    let (ended, file, screen, starved) = console_on_file(alloc, words, job, file, bytes, screen);
     file.close();
     (ended, screen, starved)
 }
@@ -112,8 +89,7 @@ pub fn console_on_nothing<S: Source, R: RawScreen>(
     job: &mut S,
     screen: R,
 ) -> (Ended, R)
-    requires words { (form : Command) → IsForm form words.now → IsOnFile form }
-    requires puts { R.puts screen ≡ [] }
+    requires { R.puts screen ≡ [] }
     ensures why { WhyEnded words.now (given S.Source job.old job.new) [] [] (R.puts result.1) true result.0 }
     ensures did { (form : Command) → IsForm form words.now → DidOnFile true form (given S.Source job.old job.new) [] [] (R.puts result.1) result.0 }
 {

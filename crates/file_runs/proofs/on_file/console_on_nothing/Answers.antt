@@ -38,7 +38,7 @@ returns-clause-did g c form is =
     let puts_of = g.R.RawScreen.puts in
     let out = ran.new.outside in
     let puts = puts_of out.screen.screen in
-    let none : puts_of made.result.screen.screen ≡ [] = ap (λ noted. puts_of noted.screen) made.ensures.screen ∙ ap puts_of c.new-noted.ensures.screen ∙ c.requires.puts in
+    let none : puts_of made.result.screen.screen ≡ [] = ap (λ noted. puts_of noted.screen) made.ensures.screen ∙ ap puts_of c.new-noted.ensures.screen ∙ c.requires in
     let did = ran.ensures.did form is [] [] puts true (record {
       started = ap (λ (disk : AbsentDisk). disk.faults) made.ensures.disk ∙ c.new-disk.ensures;
       calm_disk = λ calm. let never : true ≡ false = calm.0 in let no : ⊥ = cc in absurd no;

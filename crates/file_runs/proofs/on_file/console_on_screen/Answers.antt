@@ -3,7 +3,7 @@ use Rattle.file_runs.proofs.on_file.console_on_screen.Goals as goal
 -- no call on the file in memory failed
 pub returns-clause-why : goal.returns-clause-why
 returns-clause-why g c =
-    let ran = c.console_kept-ended.ensures.why in
+    let ran = c.console_on_file-ended.ensures.why in
     let unfailed = c.close.ensures in
     record {
       usage = ran.usage;
@@ -15,4 +15,4 @@ returns-clause-why g c =
     }
 
 pub returns-clause-did : goal.returns-clause-did
-returns-clause-did g c form is = c.console_kept-ended.ensures.shown form is c.close.ensures
+returns-clause-did g c form is = c.console_on_file-ended.ensures.shown form is c.close.ensures

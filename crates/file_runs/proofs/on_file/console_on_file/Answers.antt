@@ -4,7 +4,7 @@ use Rattle.outside.specs.Origin.{Origin}
 use Rattle.real_files.specs.ShownLaws.{marks_in_order}
 use Rattle.file_runs.proofs.FileLemmas.{marks_counted}
 use Rattle.real_files.specs.Deeds.{deed_failed, file_after}
-use Rattle.file_runs.proofs.on_file.console_kept.Goals as goal
+use Rattle.file_runs.proofs.on_file.console_on_file.Goals as goal
 
 pub returns-clause-why : goal.returns-clause-why
 returns-clause-why g c =
