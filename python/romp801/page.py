@@ -202,22 +202,40 @@ def _ending(line: reports.Ended) -> str:
     return words[line.word]
 
 
-def line_names(store: Store) -> list[str]:
-    """Each line of a store, by its segment and its offset there in hexadecimal."""
-    return [
-        f"{segment}:{at:04x}"
-        for segment, pages in store.segments
-        for at in range(0, pages * store.page, store.line)
-    ]
+def lines_of(store: Store) -> dict[str, bytes]:
+    """Each line of a store, by its segment and its offset there in hexadecimal, in their order."""
+    return {
+        f"{segment}:{at:04x}": content[at : at + store.line]
+        for segment, content in store.content().items()
+        for at in range(0, len(content), store.line)
+    }
+
+
+def _held(lines: Mapping[str, bytes], behind: Mapping[int, Mapping[int, bytes]]) -> dict[str, Any]:
+    """What the lines that a run changes held first, and which of them each commit changed."""
+    names = list(lines)
+    first = sorted({it for changed in behind.values() for it in changed})
+    return {
+        "first": {names[it]: lines[names[it]].hex() for it in first},
+        "changes": [
+            [number, {names[it]: data.hex() for it, data in changed.items()}] for number, changed in behind.items()
+        ],
+    }
 
 
 def page(
-    title: str, found: reports.Report, traces: Mapping[int, list[Touch]], store: Optional[Store] = None
+    title: str,
+    found: reports.Report,
+    traces: Mapping[int, list[Touch]],
+    store: Optional[Store] = None,
+    behind: Optional[Mapping[int, Mapping[int, bytes]]] = None,
 ) -> str:
-    """The page of a report. `traces` has what some of its activations touched, and `store` is a copy of the store from
-    before the run, which says where lines lie; raises NoReport where the report can't be."""
+    """The page of a report. `traces` has what some of its activations touched, `store` is a copy of the store from
+    before the run, which says where lines lie, and `behind` has the lines that each commit changed, by the number
+    behind it (romp801.held); raises NoReport where the report can't be."""
     steps = Steps(found.lines)
-    names = line_names(store) if store is not None else []
+    lines = lines_of(store) if store is not None else {}
+    names = list(lines)
     data: dict[str, Any] = {
         "title": title,
         "steps": [dataclasses.asdict(it) for it in steps.steps],
@@ -228,6 +246,7 @@ def page(
             number: [[it.step, it.how, names[it.index] if it.index < len(names) else str(it.index)] for it in touches]
             for number, touches in traces.items()
         },
+        "held": _held(lines, behind) if behind else None,
     }
     text = json.dumps(data, separators=(",", ":")).replace("<", "\\u003c")
     form = pathlib.Path(__file__).with_name("page.html").read_text(encoding="utf-8")

@@ -10,6 +10,7 @@ from typing import Iterable, NamedTuple, Optional
 from romp801 import files, words
 from romp801.errors import WRONG_USE, Failure
 from romp801.format import Fault
+from romp801.report import Commit, Open, line_of
 
 TOP = os.path.dirname(os.path.dirname(os.path.dirname(os.path.realpath(__file__))))
 PROVED = os.path.join(TOP, "crates/romp801/out/romp801")
@@ -66,10 +67,12 @@ class Program:
             )
         return cls(os.path.abspath(found))
 
-    def start(self, *line: str, given: bytes = b"", keeps: Iterable[int] = ()) -> subprocess.Popen[bytes]:
-        """Starts the program with these words on these bytes; its output and errors are pipes. Of a store memory
-        forgets the clean pages first, so that the program opens what the medium holds. `keeps` are open files that it
-        has too."""
+    def start(
+        self, *line: str, given: bytes = b"", keeps: Iterable[int] = (), output: int = subprocess.PIPE
+    ) -> subprocess.Popen[bytes]:
+        """Starts the program with these words on these bytes; its output and errors are pipes, or its output goes into
+        an open file. Of a store memory forgets the clean pages first, so that the program opens what the medium holds.
+        `keeps` are open files that it has too."""
         for word in line:
             try:
                 os.fsencode(word).decode("utf-8")
@@ -81,7 +84,7 @@ class Program:
             files.forget_store(line[1])
         with files.in_memory(given) as text:
             return subprocess.Popen(
-                [self.path, *line], stdin=text, stdout=subprocess.PIPE, stderr=subprocess.PIPE, pass_fds=tuple(keeps)
+                [self.path, *line], stdin=text, stdout=output, stderr=subprocess.PIPE, pass_fds=tuple(keeps)
             )
 
     def call(
@@ -119,15 +122,13 @@ class Program:
         report, reached = b"", None
         with files.copy_of(opening) as (store, keeps), self.start("run", store, given=job, keeps=keeps) as child:
             assert child.stdout is not None
-            for line in child.stdout:
-                parts = line.split()
-                if to_next and parts[0] == b"commit" and reached == number:
+            for text in child.stdout:
+                line = line_of(text.decode())
+                if to_next and isinstance(line, Commit) and reached == number:
                     break
-                if parts[0] == b"commit":
-                    reached = int(parts[3])
-                elif parts[0] == b"open" and reached is None:
-                    reached = int(parts[1])
-                report += line
+                if isinstance(line, Commit) or isinstance(line, Open) and reached is None:
+                    reached = line.number
+                report += text
                 if not to_next and reached == number and len(report) >= least:
                     break
             child.kill()

@@ -5,10 +5,13 @@ import json
 import re
 import unittest
 
-from romp801 import page, report
+from romp801 import Failure, Store, files, held, page, report
+from romp801.job import Job
 from romp801.prints import Touch
+from romp801.program import refused
 from romp801.report import NoReport
 from tests import tables
+from tests.stores import Case
 
 
 class Steps(unittest.TestCase):
@@ -53,6 +56,31 @@ class Steps(unittest.TestCase):
         assert data
         told = json.loads(data[1])
         self.assertEqual((told["title"], told["traces"]), ("</script><b>", {"1": [[2, "r", "0"]]}))
+
+
+class Held(Case):
+    """What the store held at each step."""
+
+    def test_held(self) -> None:
+        """The opening store with the changes of all commits is the store in the end; of a cut report it is a first
+        part; a job with another report is refused."""
+        job = Job.read((tables.TOP / "examples/index.job").read_text())
+        store = self.path("store")
+        self.new("new", store, "8192", "1", "4", "2", "2")
+        opening = files.read_bytes(store)
+        ended = refused(self.program.call("run", store, given=bytes(job)), "run").stdout
+        found = report.Report.read(ended)
+        behind = held.changes(self.program, bytes(job), opening, found)
+        self.assertEqual(list(behind), [it.number for it in found.commits()])
+        lines = list(page.lines_of(Store(opening)).values())
+        for changed in behind.values():
+            for index, data in changed.items():
+                lines[index] = data
+        self.assertEqual(lines, list(page.lines_of(files.read_store(store)).values()))
+        first = held.changes(self.program, bytes(job), opening, report.Report.read(ended[:400]))
+        self.assertEqual(first, {number: behind[number] for number in first})
+        with self.assertRaises(Failure):
+            held.changes(self.program, bytes(job._replace(events=job.events[1:])), opening, found)
 
 
 if __name__ == "__main__":

@@ -1,9 +1,10 @@
 // The console on what the words want: a file, or a disk in memory.
-ghost use Rattle.std.specs.Prelude.{◌≡◌, ◌++◌, ◌∷◌, [], IfOk, List, ℕ};
+ghost use Rattle.std.specs.Prelude.{◌≡◌, ◌↔◌, ◌++◌, ◌∷◌, [], IfOk, List, suc, ℕ};
 ghost use Rattle.console.specs.Words.{IsForm, IsNoForm};
 ghost use Rattle.file_runs.specs.Below.{Command, Deed, given};
 ghost use Rattle.file_runs.specs.FileWords.{IsOnFile};
 ghost use Rattle.file_runs.specs.WordRun.{bytes_for, openings_for, path_in, RanAs};
+ghost use Rattle.file_runs.specs.declared.word_run.RanOn.TheVariants.{Nothing};
 
 use super::on_file::{console_on_file, console_on_nothing, console_on_screen};
 use console::{DiskKind, Ended, disk_of, path_of, try_store};
@@ -38,6 +39,7 @@ pub fn run_words<S: Source, O: Opener, R: RawScreen + Drop>(
     requires { R.puts screen ≡ [] }
     ensures opened { (form : Command) → IsForm form words.now → O.asked opener.new ≡ O.asked opener.old ++ openings_for form (path_in words.now) }
     ensures unopened { IsNoForm words.now → O.asked opener.new ≡ O.asked opener.old }
+    ensures refused { IfOk result (λ it. (it.1 ≡ Nothing) ↔ (O.refusals opener.new ≡ suc (O.refusals opener.old))) }
     ensures ran { IfOk result (λ it. RanAs O.Opened.first O.Opened.deeds words.now (given S.Source job.old job.new) it.1 (R.puts it.2) it.0) }
 {
     match disk_of(words) {
@@ -61,6 +63,7 @@ fn on_path<S: Source, O: Opener, R: RawScreen + Drop>(
     requires puts { R.puts screen ≡ [] }
     requires words { (form : Command) → IsForm form words.now → IsOnFile form }
     ensures opened { O.asked opener.new ≡ O.asked opener.old ++ (path_in words.now, wanted) ∷ [] }
+    ensures refused { IfOk result (λ it. (it.1 ≡ Nothing) ↔ (O.refusals opener.new ≡ suc (O.refusals opener.old))) }
     ensures ran { IfOk result (λ it. RanAs O.Opened.first O.Opened.deeds words.now (given S.Source job.old job.new) it.1 (R.puts it.2) it.0) }
 {
     match opener.open(path_of(words), wanted) {
@@ -88,7 +91,8 @@ fn on_bytes<S: Source, F, R: RawScreen>(
 ) -> (Ended, RanOn<F>, R)
     requires puts { R.puts screen ≡ [] }
     requires words { (form : Command) → IsForm form words.now → (¬ (IsOnFile form)) × (bytes.items ≡ bytes_for form) }
-    ensures { (first_of : F → List ℕ) (deeds_of : F → List Deed) → RanAs first_of deeds_of words.now (given S.Source job.old job.new) result.1 (R.puts result.2) result.0 }
+    ensures ran { (first_of : F → List ℕ) (deeds_of : F → List Deed) → RanAs first_of deeds_of words.now (given S.Source job.old job.new) result.1 (R.puts result.2) result.0 }
+    ensures refused { ¬ (result.1 ≡ Nothing) }
 {
     let (ended, screen, starved) = console_on_screen(alloc, words, job, bytes, screen);
     (ended, RanOn::Memory(starved), screen)

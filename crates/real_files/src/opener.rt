@@ -1,7 +1,7 @@
 // What opens files by their paths.
-ghost use Rattle.std.specs.Prelude.{◌≡◌, ◌++◌, [], ◌∷◌, List, map, ℕ, IfOk};
+ghost use Rattle.std.specs.Prelude.{◌≡◌, ◌↔◌, ◌++◌, [], ◌∷◌, Err, List, map, length, suc, ℕ, IfOk};
 ghost use Rattle.real_files.specs.Opened.{opening_of};
-ghost use Rattle.real_files.specs.declared.opener.Unopened.TheVariants.{Memory};
+ghost use Rattle.real_files.specs.declared.opener.Unopened.TheVariants.{Memory, Refused};
 ghost use Rattle.real_files.specs.declared.std_file.FileUse.{FileUse};
 
 use crate::file_trace::{FileTrace, WROTE};
@@ -28,12 +28,15 @@ impl From<AllocError> for Unopened {
     }
 }
 
-/// Opens files by their paths. It says which it was asked for, and what for.
+/// Opens files by their paths. It says which it was asked for, what for, and how many it couldn't have so.
 pub trait Opener {
     type Opened: RawFile;
 
     /// The paths that it was asked to open, each with what for, in order.
     ghost asked: { Self → List (List ℕ × FileUse) };
+
+    /// How many of them were refused.
+    ghost refusals: { Self → ℕ };
 
     /// Opens the file at this path, and gives the bytes that it read of it.
     ///
@@ -42,6 +45,7 @@ pub trait Opener {
     /// Where it can't be had so, or there is no memory.
     fn open(&mut self, path: &str, wanted: FileUse) -> Result<(Self::Opened, Vec<u8>), Unopened>
         ensures asked { asked self.new ≡ asked self.old ++ (path.now, wanted) ∷ [] }
+        ensures refused { (result ≡ Err Refused) ↔ (refusals self.new ≡ suc (refusals self.old)) }
         ensures first { IfOk result (λ opened. Self.Opened.first opened.0 ≡ opened.1.items) }
         ensures deeds { IfOk result (λ opened. Self.Opened.deeds opened.0 ≡ []) };
 }
@@ -51,6 +55,7 @@ pub trait Opener {
 pub struct StdOpener<R: Files<File = File> + AllocGlobal> {
     rt: R,
     trace: FileTrace,
+    refused: FileTrace,
 }
 
 impl<R: Files<File = File> + AllocGlobal + Clone + Drop> StdOpener<R> {
@@ -61,6 +66,7 @@ impl<R: Files<File = File> + AllocGlobal + Clone + Drop> StdOpener<R> {
         StdOpener {
             rt,
             trace: FileTrace::new(),
+            refused: FileTrace::new(),
         }
     }
 }
@@ -70,13 +76,19 @@ impl<R: Files<File = File> + AllocGlobal + Clone + Drop> Opener for StdOpener<R>
 
     ghost asked = { λ opener. map opening_of opener.trace.deeds };
 
+    ghost refusals = { λ opener. length opener.refused.deeds };
+
     fn open(&mut self, path: &str, wanted: FileUse) -> Result<(StdFile<R>, Vec<u8>), Unopened> {
         self.trace.note(&[WROTE, wanted.number()], path.as_bytes());
         let named = String::from_str(self.rt.alloc(), path)?;
         match StdFile::open(self.rt.clone()?, named, wanted) {
             Ok(opened) => Ok(opened),
             Err(error) if error.kind() == io::ErrorKind::OutOfMemory => Err(Unopened::Memory),
-            Err(_) => Err(Unopened::Refused),
+            Err(_) => {
+                self.refused
+                    .note(&[WROTE, wanted.number()], path.as_bytes());
+                Err(Unopened::Refused)
+            }
         }
     }
 }

@@ -1,22 +1,26 @@
 //! The program: it makes the real parts, calls the console once, and ends with the status's number.
 #![tactic(auto)]
 
-ghost use Rattle.std.specs.Prelude.{◌≡◌, ◌≤◌, ◌++◌, [], ◌∷◌, ℕ, take, length, IfOk, OnOk, OnErr};
+ghost use Rattle.std.specs.Prelude.{◌≡◌, ◌++◌, ◌⊎◌, [], ◌∷◌, ℕ, take, IfOk, OnOk, OnErr};
 ghost use Rattle.std.specs.Process.{exit_status};
 ghost use Rattle.console.specs.Words.{IsForm};
 ghost use Rattle.console.specs.Wants.{source_for};
 ghost use Rattle.console.specs.declared.command_words.Command.{Command};
 ghost use Rattle.call_status.specs.Statuses.{status_number, error_text};
+ghost use Rattle.call_status.specs.declared.status.Status.TheVariants.{NoMemory, Usage};
 ghost use Rattle.real_files.specs.Deeds as deed;
+ghost use Rattle.real_files.specs.Found.{IsReadFrom};
+ghost use Rattle.std.specs.declared.io.ErrorKind.TheVariants.{OutOfMemory};
 ghost use Rattle.real_files.specs.Shown.{printed_of};
 
 use console::{DiskKind, Ended, Status, disk_of, path_of, reads_source, status_text};
 use file_runs::run_words;
 use outside::Failed;
 use real_files::{RawScreen, ReadSource, StdOpener, StdOut, may_spoil};
-use std::alloc::AllocError;
+use std::alloc::{AllocError, Global};
 use std::process::ExitCode;
-use std::{env, io};
+use std::env;
+use std::io::{ErrorKind, Read};
 
 fn main(rt: HostRuntime) -> ExitCode {
     let status = match words_of(&rt) {
@@ -70,26 +74,29 @@ fn status_of(rt: &HostRuntime, words: &[String]) -> Status {
 /// The console on the real source, files and screen.
 fn run(rt: &HostRuntime, words: &[String]) -> Result<Ended, AllocError> {
     // The source comes first: until it is read, another may have the file.
-    let mut job = source_of(rt, words)?;
+    let mut job = source_of(rt.alloc(), rt.stdin(), words)?;
     let mut files = StdOpener::new(rt.clone()?);
     let screen = StdOut::new(rt.clone()?);
     let (ended, _, _) = run_words(rt.alloc(), words, &mut job, &mut files, screen)?;
     Ok(ended)
 }
 
-/// The standard input, as far as the words read it, and no further: it is read first.
-fn source_of(rt: &HostRuntime, words: &[String]) -> Result<ReadSource, AllocError>
-    ensures { IfOk result (λ source. (form : Command) → IsForm form words.now → length source.bytes.items ≤ source_for form) }
+/// An input as far as the words read it, and no further: it is read first.
+fn source_of<I: Read + Drop>(
+    alloc: Global,
+    input: I,
+    words: &[String],
+) -> Result<ReadSource, AllocError>
+    ensures { IfOk result (λ source. (form : Command) → IsForm form words.now → IsReadFrom (source_for form) (I.remaining input) source.bytes.items source.is_cut) }
 {
-    ReadSource::read(rt.alloc(), rt.stdin(), reads_source(words))
+    ReadSource::read(alloc, input, reads_source(words))
 }
 
 /// The words of the command line, without the program's name: no command line where one is not UTF-8.
-fn words_of(rt: &HostRuntime) -> Result<Vec<String>, Status> {
-    let args = env::args(rt).map_err(|error| match error.kind() {
-        io::ErrorKind::OutOfMemory => Status::NoMemory,
-        _ => Status::Usage,
-    })?;
+fn words_of(rt: &HostRuntime) -> Result<Vec<String>, Status>
+    ensures { OnErr result (λ why. (why ≡ Usage) ⊎ (why ≡ NoMemory)) }
+{
+    let args = env::args(rt).map_err(|error| without_words(error.kind()))?;
     let mut words = Vec::new(rt.alloc());
     for word in args.skip(1) {
         if words.push(word).is_err() {
@@ -97,4 +104,15 @@ fn words_of(rt: &HostRuntime) -> Result<Vec<String>, Status> {
         }
     }
     Ok(words)
+}
+
+/// What the program ends with where it has no words, for this reason.
+fn without_words(why: ErrorKind) -> Status
+    ensures memory { why ≡ OutOfMemory → result ≡ NoMemory }
+    ensures other { (¬ (why ≡ OutOfMemory)) → result ≡ Usage }
+{
+    match why {
+        ErrorKind::OutOfMemory => Status::NoMemory,
+        _ => Status::Usage,
+    }
 }
