@@ -6,7 +6,7 @@ use Rattle.store_format.proofs.Common.{big_bytes, big_number}
 use Rattle.desk.specs.Asked.{EventAsks, own_header}
 use Rattle.desk.specs.Instruction.{Committed, CommitDoubted, CommitUnwritten}
 use Rattle.desk.specs.Run.{CheckpointFailed, CheckpointMade, Crashed, CrashFailed, Turned}
-use Rattle.drills.specs.Asked.{AreSome, IsSome}
+use Rattle.drills.specs.Asked.{AreSome, WritesSome}
 use Rattle.lines.specs.Segments.{line_bytes}
 use Rattle.lines.specs.FlatLines.{line_count}
 use Rattle.lines.specs.declared.line_geometry.PageSize.{PageSize}
@@ -34,7 +34,7 @@ some-rest : (first second : List Deed) → AreSome (first ++ second) → AreSome
 some-rest [] second are = are
 some-rest (deed ∷ first) second are = some-rest first second are.1
 
-broken-some : (deed : Deed) → IsSome deed → IsSome (broken deed)
+broken-some : (deed : Deed) → WritesSome deed → WritesSome (broken deed)
 broken-some (Wrote at bytes) is = is
 broken-some (Tore at bytes) is = is
 broken-some Synced is = is
@@ -221,7 +221,7 @@ left-kept outcome (deed ∷ deeds) held are long =
     wrote : (at : ℕ) (bytes : List ℕ) → 128 ≤ at → IsKept held (written held at bytes)
     wrote at bytes low = record { front = written-front held bytes at low long; long = written-long held bytes at }
 
-    by_deed : (deed : Deed) → IsSome deed → IsKept held (left_by outcome deed held)
+    by_deed : (deed : Deed) → WritesSome deed → IsKept held (left_by outcome deed held)
     by_deed (Wrote at bytes) is = wrote at bytes is.0
     by_deed (Tore at bytes) is = wrote at (take (length bytes) outcome) is.0
     by_deed Synced is = record { front = refl; long = omega arith }

@@ -15,12 +15,12 @@ abbrev pub OpenedWith : (left : List Deed → List ℕ) (deeds : List Deed) → 
 OpenedWith left deeds these = (later : List Deed) × (deeds ≡ Synced ∷ later) × HappenedAsks left (Synced ∷ []) these later
 
 -- a write has bytes, and lies behind a header
-abbrev pub IsSome : Deed → Type 0
-IsSome (Wrote at bytes) = (128 ≤ at) × (0 < length bytes)
-IsSome (Tore at bytes) = (128 ≤ at) × (0 < length bytes)
-IsSome _ = Unit {0}
+abbrev pub WritesSome : Deed → Type 0
+WritesSome (Wrote at bytes) = (128 ≤ at) × (0 < length bytes)
+WritesSome (Tore at bytes) = (128 ≤ at) × (0 < length bytes)
+WritesSome _ = Unit {0}
 
 -- so does each of these
 abbrev pub AreSome : List Deed → Type 0
 AreSome [] = Unit {0}
-AreSome (deed ∷ deeds) = IsSome deed × AreSome deeds
+AreSome (deed ∷ deeds) = WritesSome deed × AreSome deeds

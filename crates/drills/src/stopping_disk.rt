@@ -4,15 +4,8 @@ ghost use Rattle.outside.specs.MemoryDisk.{disk_plan};
 ghost use Rattle.drills.specs.Stopping.{IsStopping};
 
 use outside::{Disk, Failed, MemoryDisk};
-use real_files::FileTrace;
+use real_files::{FileTrace, SYNCED, TORE, WROTE};
 use std::alloc::Global;
-
-// The kinds of notes of a trace.
-const WROTE: u64 = 0;
-
-const TORE: u64 = 1;
-
-const SYNCED: u64 = 2;
 
 /// A disk in memory that stops within one of its writes. Until then it fails for want of memory alone. It tells what was asked of it.
 #[derive(Drop)]

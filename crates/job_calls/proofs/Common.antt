@@ -44,7 +44,7 @@ pub use Rattle.store_format.specs.Stands.{Standing, Stands, chosen}
 unfoldable pub use Rattle.store_format.specs.Stands.{stands}
 pub use Rattle.session.specs.Opened.{HasStood, IsSessionOpened}
 pub use Rattle.session.specs.Session.{activity, fixed_of, session_desk, order_of}
-pub use Rattle.session.specs.contracts.supervisor.SessionSupervisor.TheImpl.{ghosts}
+pub use Rattle.session.specs.contracts.calls.SessionSupervisor.TheImpl.{ghosts}
 pub use Rattle.session.specs.declared.session.SessionState.{SessionState}
 pub use Rattle.job_calls.specs.Big.{HasBigRun, IsToldBy, Loaded, LoadedBy, RanBig, big_line, last_out, line_for}
 pub use Rattle.job_calls.specs.Causes.{OpensBy, status_of_replay}

@@ -19,7 +19,7 @@ use Rattle.schedule_replay.specs.RanTo.{RanTo}
 use Rattle.schedule_replay.specs.RunAsks.{happened, OpenedAsks}
 use Rattle.schedule_replay.specs.Runs.{Opening, lines_of, opening, report_lines_of, report_of, span}
 use Rattle.schedule_replay.specs.Told.{TellsBy}
-use Rattle.session.specs.contracts.supervisor.SessionSupervisor.TheImpl.{ghosts}
+use Rattle.session.specs.contracts.calls.SessionSupervisor.TheImpl.{ghosts}
 use Rattle.job_text.specs.Grammar.{job_of, content_of}
 use Rattle.call_status.specs.declared.status.Status.TheVariants as status
 use Rattle.call_status.specs.Reading.{ReadsBy}

@@ -6,7 +6,7 @@ ghost use Rattle.job_calls.specs.Big.{EndsLoad, IsToldBy, big_line};
 use super::ended::Ended;
 use super::run::{begins_in, filled};
 use call_status::Status;
-use desk::Committed;
+use desk::{Committed, Supervisor};
 use job_text::{Job, big_job};
 use outside::{Failed, Outside};
 use schedule_replay::{LastPrinted, Quiet, run_quiet};

@@ -6,7 +6,7 @@ ghost use Rattle.job_calls.specs.Headline.{HasRunJob, RunsSource};
 
 use super::ended::Ended;
 use call_status::{Status, job_from};
-use desk::{Committed, Event};
+use desk::{Committed, Event, Supervisor};
 use job_text::Job;
 use outside::{Outside, Source};
 use schedule_replay::{Replayed, replay};

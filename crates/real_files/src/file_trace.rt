@@ -6,12 +6,14 @@ ghost use Rattle.real_files.specs.Deeds.{Deed, coded_deed, deed_of};
 
 use std::marker::{Model, PhantomData};
 
-/// The kinds of notes.
-pub(crate) const WROTE: u64 = 0;
+/// The kind of a note: a write.
+pub const WROTE: u64 = 0;
 
-pub(crate) const TORE: u64 = 1;
+/// A write that failed.
+pub const TORE: u64 = 1;
 
-pub(crate) const SYNCED: u64 = 2;
+/// A sync.
+pub const SYNCED: u64 = 2;
 
 pub(crate) const UNSYNCED: u64 = 3;
 

@@ -20,7 +20,7 @@ ghost use Rattle.std.specs.Prelude.{IsErr};
 ghost use Rattle.outside.specs.Causes.{FailsOnlyCounted};
 
 pub use absent_disk::AbsentDisk;
-pub use file_trace::FileTrace;
+pub use file_trace::{FileTrace, SYNCED, TORE, WROTE};
 pub use identity::may_spoil;
 pub use kept_disk::KeptDisk;
 pub use memory_file::MemoryFile;

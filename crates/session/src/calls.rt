@@ -1,4 +1,4 @@
-// The calls of a session: what each does, and why each answer comes.
+// The session as a supervisor: what each call does, and why each answer comes.
 ghost use Rattle.std.specs.Prelude.{◌≡◌, ◌≤◌, ◌<◌, ◌^◌, length, map};
 ghost use Rattle.session.specs.Below.{HasBegun, HoldsStore, number_after, numbers, OfShown};
 ghost use Rattle.session.specs.Causes.{turn_answer};
@@ -6,7 +6,7 @@ ghost use Rattle.session.specs.Causes.{turn_answer};
 use super::session::Session;
 use activations::Tally;
 use arrayvec::ArrayVec;
-use desk::{Begun, Committed, Reopened, Stored, Turn, TurnEnd};
+use desk::{Begun, Committed, Reopened, Stored, Supervisor, Turn, TurnEnd};
 use outside::{Failed, Outside};
 use store::ReopenFault;
 
@@ -23,14 +23,21 @@ fn told(tally: Tally, end: TurnEnd) -> Turn
     }
 }
 
-impl Session {
+impl Supervisor for Session {
     ghost use Rattle.session.specs.Session.{activity, order_of, fixed_of, session_told, session_number};
     ghost use Rattle.session.specs.Shown.{ShowsDesk};
     ghost use Rattle.session.specs.Causes.{AnswersBegin, SessionCheckpoint, SessionCrash, SessionTurn};
+    ghost use Rattle.session.specs.ShownLaws.{shown-told};
     ghost use Rattle.seats.specs.Seating.{numbers_seated};
 
+    ghost shows = { ShowsDesk };
+
+    ghost told = { session_told };
+
+    ghost shown_told = { shown-told };
+
     /// The program with this place begins with four values.
-    pub fn begin(&mut self, program: u16, args: [u32; 4]) -> Begun
+    fn begin(&mut self, program: u16, args: [u32; 4]) -> Begun
         requires program { program < length (fixed_of self.old).programs }
         requires room { (session_told self.old).given < (fixed_of self.old).begins }
         ensures begun { HasBegun ShowsDesk session_told program args self.old self.new result }
@@ -45,7 +52,7 @@ impl Session {
     }
 
     /// A turn of an activation with at most so many rows, a million at most.
-    pub fn turn<W: Outside>(&mut self, outside: &mut W, activation: u32, limit: u32) -> Turn
+    fn turn<W: Outside>(&mut self, outside: &mut W, activation: u32, limit: u32) -> Turn
         requires limit { limit ≤ 1000000 }
         requires turns { (session_told self.old).turns < 2 ^ 32 }
         requires bytes { HoldsStore W.Outside (fixed_of self.old).header outside.old }
@@ -63,7 +70,7 @@ impl Session {
     }
 
     /// Brings the store home, so that its journal begins again.
-    pub fn checkpoint<W: Outside>(&mut self, outside: &mut W) -> Stored
+    fn checkpoint<W: Outside>(&mut self, outside: &mut W) -> Stored
         requires bytes { HoldsStore W.Outside (fixed_of self.old).header outside.old }
         ensures { SessionCheckpoint W.Outside self.old self.new outside.old outside.new result }
     {
@@ -80,7 +87,7 @@ impl Session {
     }
 
     /// A crash: it forgets all that isn't on the disk, and reads the store again. It asks one sync of the disk.
-    pub fn forget<W: Outside>(&mut self, outside: &mut W) -> Reopened
+    fn forget<W: Outside>(&mut self, outside: &mut W) -> Reopened
         requires bytes { HoldsStore W.Outside (fixed_of self.old).header outside.old }
         ensures { SessionCrash W.Outside self.old self.new outside.old outside.new result }
     {
@@ -103,7 +110,7 @@ impl Session {
     }
 
     /// The store's number.
-    pub fn number(&self) -> u64
+    fn number(&self) -> u64
         ensures number { result ≡ session_number self.now }
         ensures shown { OfShown (ShowsDesk self.now) (λ it. result ≡ number_after (fixed_of self.now).opened it) }
     {
@@ -111,7 +118,7 @@ impl Session {
     }
 
     /// The numbers of those that are active, ascending.
-    pub fn active(&self) -> ArrayVec<u32, 16>
+    fn active(&self) -> ArrayVec<u32, 16>
         ensures active { result.items ≡ numbers_seated (activity self.now).seating }
         ensures shown { OfShown (ShowsDesk self.now) (λ desk. result.items ≡ numbers desk) }
     {
@@ -119,7 +126,7 @@ impl Session {
     }
 
     /// What the activation of the last turn that ended by a commit had printed.
-    pub fn printed(&self) -> &[u8]
+    fn printed(&self) -> &[u8]
         ensures bytes { result.now ≡ (session_told self.now).printed }
         ensures few { length result.now ≤ 4096 }
     {
@@ -127,7 +134,7 @@ impl Session {
     }
 
     /// The commits, in order, with one in doubt at most at the end.
-    pub fn order(&self) -> &[Committed]
+    fn order(&self) -> &[Committed]
         ensures order { map (λ commit. (commit.activation, commit.steps)) result.now ≡ order_of self.now }
         ensures few { length result.now ≤ (fixed_of self.now).begins }
     {

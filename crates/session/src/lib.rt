@@ -6,7 +6,6 @@ mod calls;
 mod commits;
 mod session;
 mod shown_laws;
-mod supervisor;
 mod turn_end;
 
 pub use session::Session;

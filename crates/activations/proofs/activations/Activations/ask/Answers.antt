@@ -1,4 +1,4 @@
-use Rattle.activations.proofs.Lemmas.{AreWanted, Want, asking, activity_of, Inside, ◌≡◌, List, map, Activity, TouchedLines, AreWithin, with_whole_page, taken-of, Seating, sitter, holders, desk_over, IsActivitySound, KeepsParts, StandsStill, IsContested, tally_counts, wants_of, taken-below, ℕ, IsSome, ap, sym, ◌∙◌, subst, EndsContest, keeps-two, still-on, ok-then, some-holders, asked-within, sound-asking, asks-now, keeps-asking, still-asking, asked-whole, IfErr}
+use Rattle.activations.proofs.Lemmas.{AreWanted, Want, asking, activity_of, Inside, ◌≡◌, List, map, Activity, TouchedLines, AreWithin, with_whole_page, taken-of, Seating, sitter, holders, desk_over, IsActivitySound, KeepsParts, StandsStill, IsContested, tally_counts, wants_of, taken-below, ℕ, IsSome, ap, sym, ◌∙◌, subst, EndsContest, keeps-two, still-on, ok-then, some-holders, asked-within, sound-asking, asks-now, keeps-asking, still-asking, asked-whole, IfErr, rules}
 use Rattle.activations.proofs.activations.Activations.ask.Goals as goal
 
 -- what is asked for is of pages that are there
@@ -47,3 +47,12 @@ returns c =
           (subst (λ (x : Activity). IsContested begins attempt refused (desk_over a committed order) x committed order (tally_counts c.args.tally.now)) (sym is)
           (asked.contested request others.0 others.1 c.request-request.ensures (sym held ∙ others.2)));
     }
+
+pub returns-then-is_empty : goal.returns-then-is_empty
+returns-then-is_empty c = record {
+  keeps = search rules;
+  counts = search rules;
+  stays = search rules;
+  ends = search rules;
+  settled = search rules;
+}

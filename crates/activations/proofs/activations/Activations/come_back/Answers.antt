@@ -1,4 +1,4 @@
-use Rattle.activations.proofs.Lemmas.{KeepsParts, keeps-pool, refl, Result, sym, ◌∙◌, subst, TurnEnd, Activity, Tally, IsTurning, ComesBack, HasEnded, HasBroken, wants_of, instruction_in, with_other_pool, tally_counts, keeps-broke, is-to-serve, prepare-broke, handed, turn-ends, under, turn-back}
+use Rattle.activations.proofs.Lemmas.{KeepsParts, keeps-pool, refl, Result, sym, ◌∙◌, subst, TurnEnd, Activity, Tally, IsTurning, ComesBack, HasEnded, HasBroken, wants_of, instruction_in, with_other_pool, tally_counts, keeps-broke, is-to-serve, prepare-broke, handed, turn-ends, under, turn-back, rules}
 use Rattle.desk.specs.declared.answers.TurnEnd.TheVariants as end
 use Rattle.activations.proofs.activations.Activations.come_back.Goals as goal
 
@@ -33,3 +33,9 @@ pub returns-clause-keeps : goal.returns-clause-keeps
 returns-clause-keeps g c =
     let a = c.args.self.now in
     record { asks = c.bring.ensures.asks; parts = subst (λ (x : Activity). KeepsParts a x 0) (sym (c.look_up.ensures ∙ c.in_ok-bring.ensures.shape)) (keeps-pool a c.bring.new.self.reach.pool) }
+
+pub returns-then-not-is_granted-clause-keeps : goal.returns-then-not-is_granted-clause-keeps
+returns-then-not-is_granted-clause-keeps g c = record { asks = search rules; parts = search rules }
+
+pub returns-in_default-clause-keeps : goal.returns-in_default-clause-keeps
+returns-in_default-clause-keeps g c = record { asks = search rules; parts = search rules }

@@ -45,3 +45,12 @@ pub returns-else-first-ge-PRIVATE-clause-wanted : goal.returns-else-first-ge-PRI
 returns-else-first-ge-PRIVATE-clause-wanted c =
     let lies = lies-in (goal.at.returns-else-first-ge-PRIVATE-clause-wanted c).After-line_of-else-first-ge-PRIVATE in
     c.between.ensures.wanted c.args.self.now.reach.directory (omega (arith, lies.1, lies.3))
+
+pub returns-else-first-ge-PRIVATE-clause-sound : goal.returns-else-first-ge-PRIVATE-clause-sound
+returns-else-first-ge-PRIVATE-clause-sound c = subst IsActivitySound c.self.view_is c.self.invariant
+
+pub returns-then-first-ge-PRIVATE-clause-sound : goal.returns-then-first-ge-PRIVATE-clause-sound
+returns-then-first-ge-PRIVATE-clause-sound c = subst IsActivitySound c.self.view_is c.self.invariant
+
+pub returns-in_default-clause-sound : goal.returns-in_default-clause-sound
+returns-in_default-clause-sound c = subst IsActivitySound c.self.view_is c.self.invariant

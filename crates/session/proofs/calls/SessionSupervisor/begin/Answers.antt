@@ -3,7 +3,7 @@ use Rattle.session.proofs.Lemmas.{common_steps, rules, arith, sym, subst, activi
 use Rattle.session.specs.Below.{HasBegun}
 use Rattle.session.specs.Causes.{IsBeginAnswer}
 use Rattle.session.proofs.BeginLemmas.{session-begun, shown-begun, told-begun, with_activations}
-use Rattle.session.proofs.session.Session.begin.Goals as goal
+use Rattle.session.proofs.calls.SessionSupervisor.begin.Goals as goal
 
 pub returns-clause-begun : goal.returns-clause-begun
 returns-clause-begun c =

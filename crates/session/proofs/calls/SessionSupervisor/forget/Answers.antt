@@ -8,7 +8,7 @@ use Rattle.desk.specs.declared.answers.Reopened.TheVariants.{Damaged, DiskFault,
 use Rattle.desk.specs.declared.event.Event.TheVariants as event
 use Rattle.session.specs.Causes.{SessionCrash}
 use Rattle.session.proofs.CrashLemmas.{did-crash, did-fail-crash, number-restarted, undamaged}
-use Rattle.session.proofs.session.Session.forget.Goals as goal
+use Rattle.session.proofs.calls.SessionSupervisor.forget.Goals as goal
 
 pub returns-in-Ok : goal.returns-in-Ok
 returns-in-Ok g c = subst (λ (old : SessionState). SessionCrash g.W.Outside old (record c.self.inside.state { store = c.reopen.new.self; activations = c.forget.new.self }) c.args.outside.now c.reopen.new.outside (Number c.number.result)) c.self.view_is (record {

@@ -1,6 +1,6 @@
 use Rattle.session.specs.Below.{OfShown}
 use Rattle.session.proofs.Common.{◌≡◌, sym, subst, ◌∙◌, ap, Desk, SessionState, ShowsDesk, numbers, activity, numbers-told}
-use Rattle.session.proofs.session.Session.active.Goals as goal
+use Rattle.session.proofs.calls.SessionSupervisor.active.Goals as goal
 
 pub returns-clause-shown : goal.returns-clause-shown
 returns-clause-shown c =

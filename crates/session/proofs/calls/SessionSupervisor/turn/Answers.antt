@@ -5,7 +5,7 @@ use Rattle.session.specs.Causes.{SessionTurn}
 use Rattle.desk.specs.Kept.{writes_due, WritesMore}
 use Rattle.desk.specs.declared.answers.TurnEnd.TheVariants.{Idle}
 use Rattle.desk.specs.declared.event.Event.TheVariants as event
-use Rattle.session.proofs.session.Session.turn.Goals as goal
+use Rattle.session.proofs.calls.SessionSupervisor.turn.Goals as goal
 
 pub returns : goal.returns
 returns g c = subst (λ (old : SessionState). SessionTurn g.W.Outside c.args.activation c.args.limit old c.end_of_turn-end.new.self c.args.outside.now c.end_of_turn-end.new.outside c.told-2.result) c.self.view_is (record {

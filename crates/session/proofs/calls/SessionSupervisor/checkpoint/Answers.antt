@@ -3,7 +3,7 @@ use Rattle.session.proofs.Lemmas.{common_steps, rules, arith, ◌≡◌, ap, ◌
 use Rattle.desk.specs.declared.answers.Stored.TheVariants.{Closed, Number}
 use Rattle.desk.specs.declared.event.Event.TheVariants as event
 use Rattle.session.specs.Causes.{SessionCheckpoint}
-use Rattle.session.proofs.session.Session.checkpoint.Goals as goal
+use Rattle.session.proofs.calls.SessionSupervisor.checkpoint.Goals as goal
 
 pub returns-in-Ok : goal.returns-in-Ok
 returns-in-Ok g c = subst (λ (old : SessionState). SessionCheckpoint g.W.Outside old (record c.self.inside.state { store = c.checkpoint.new.self }) c.args.outside.now c.checkpoint.new.outside (Number c.number.result)) c.self.view_is (record {
