@@ -1,6 +1,6 @@
 -- The desk that asks where it is refused does what the desk does.
 use Rattle.desk_law.proofs.Common.{◌≡◌, refl, ℕ, zero, suc, ◌+◌, ◌==◌, not, if◌then◌else◌, List, [], ◌∷◌, ◌++◌, length, find, Some, arith, ap, sym, subst, and_parts, Plain, after, Program, Event, Turn, Desk, Active, opened, DiskWord, Counts, Turning, Going, Over, attempts, refused_pages, conflicts_of, instruction, turns, step, IsAmong, IsConsistent, IsOrderly, Memory, after_event, after_turns, opening_memory, IsMemory, FindTheirOwn, nat_tests, Turned, Committed, Machine, next_attempt, counts_refused, happening_lines, number_after, Step, asks_for, asks_refused, attempts_by, step_by, event_before, run_by, InstructionsAskAlike, IsRunOfDesk, RunsAskAlike, RunsStayConsistentBy, RunsAreIsolatedBy, SideBySideIsSerialBy, CommitsTellTheMachineBy, ReportLine}
-unfoldable use Rattle.desk_law.specs.Asking.{instruction_by, turns_by}
+unfoldable use Rattle.desk_law.specs.Asking.{asked_instruction, turns_by}
 use Rattle.desk_law.proofs.Entries.{orderly, among-found}
 use Rattle.desk_law.proofs.TurnsStay.{Stays, resident-consistent, stays-instruction}
 use Rattle.desk_law.proofs.ConsistentLaw.{stays-consistent, runs-consistent}
@@ -24,7 +24,7 @@ module _ (word : DiskWord) (entry : Active) (now : Plain) where
       grind (arith, nat_tests, asks)
 
 pub instructions_alike : InstructionsAskAlike
-unfolding instruction instruction_by
+unfolding instruction asked_instruction
 instructions_alike word desk counts entry is here = grind (arith, row-alike)
 
 -- a turn under way stands at an orderly desk
@@ -38,9 +38,9 @@ goes-orderly number most turning stays = grind (arith, nat_tests)
 module _ (word : DiskWord) (number : ℕ) where
   -- one instruction of whoever has the number
   one-alike : (desk : Desk) (counts : Counts) → IsOrderly desk
-      → (instruction_by asks_refused word (find (λ (entry : Active). entry.number == number) desk.active) desk counts ≡ instruction word (find (λ (entry : Active). entry.number == number) desk.active) desk counts)
+      → (asked_instruction asks_refused word (find (λ (entry : Active). entry.number == number) desk.active) desk counts ≡ instruction word (find (λ (entry : Active). entry.number == number) desk.active) desk counts)
       × GoesOrderly (instruction word (find (λ (entry : Active). entry.number == number) desk.active) desk counts)
-  unfolding instruction instruction_by
+  unfolding instruction asked_instruction
   one-alike desk counts is =
       let found = among-found (λ (entry : Active). entry.number == number) desk.active in
       let goes = λ (entry : Active) (here : IsAmong desk.active entry) (same : entry.number ≡ number). goes-orderly number (length counts.cycles + length desk.active) (instruction word (find (λ (entry : Active). entry.number == number) desk.active) desk counts) (stays-instruction word number (length counts.cycles + length desk.active) desk counts is (entry, here, same) (omega arith)) in

@@ -46,7 +46,7 @@ pub use Rattle.desk_law.specs.Changes.{committed_at, gone_on, committed_by, row_
 pub use Rattle.desk_law.specs.Consistent.{AreLinesApart, AreConsistent, AreDistinct, AreResident, NumbersAscend, HasNoCycle, IsAmong, IsConsistent, IsCovered, IsHeld, IsLive, IsOwned}
 pub use Rattle.desk_law.specs.Current.{IsCurrent, bytes_seen, current, current_bytes, current_of, writer}
 pub use Rattle.desk_law.specs.DeskLaws.{ArePermitted, BrokenCyclesWere, ContestedCyclesClose, EachWaits, IsLast, FineRowsAskForTheirLines, IdleWhereInactive, IsActive, IsNotIdle, PermittedIsFree, RunsStayConsistent, SomebodyCanGoOn, StaysConsistent, WriteBitsHoldPages, contest_counts, next_attempt, UnrefusedAsksNothing}
-pub use Rattle.desk_law.specs.Memory.{CommitsTellTheMachine, FindTheirOwn, IsAlone, IsMemory, Machine, Memory, RunsAreIsolated, SideBySideIsSerial, after_event, after_instruction, after_turns, commit_of, does_row, first_machine, given_back, laid_lines, memory_after, opening_memory, row_of, memory_went_on, with_machine, wrote_by}
+pub use Rattle.desk_law.specs.Memory.{CommitsTellTheMachine, FindTheirOwn, IsAlone, IsMemory, Machine, Memory, RunsAreIsolated, SideBySideIsSerial, after_event, after_instruction, after_turns, commit_of, does_row, first_machine, given_back, laid_lines, memory_after, opening_memory, row_by_entry, memory_went_on, with_machine, wrote_by}
 pub use Rattle.desk_law.specs.Orderly.{IsOrderly}
 pub use Rattle.desk_law.specs.UnderWay.{IsContending, MayGoOn, IsUnderWay, KeepsPages, contest, except, marked_waiting, served_attempt, touched_of}
 pub use Rattle.desk.specs.Commits.{IsSerial, begun, is_commit}

@@ -15,7 +15,7 @@ first-arrival waits all to (suc steps) from apart walk =
     grind (arith, nat_tests, first-step, one-step, first-arrival waits all to steps (first-step waits all steps from to walk).next)
 
 -- one that passes is found
-some-found : (test : ℕ → Bool) (all : List ℕ) (x : ℕ) → has all x ≡ true → test x ≡ true → (y : ℕ) × (find test all ≡ Some y)
+pub some-found : (test : ℕ → Bool) (all : List ℕ) (x : ℕ) → has all x ≡ true → test x ≡ true → (y : ℕ) × (find test all ≡ Some y)
 some-found test all x inside passes = by_found (find test all) refl
   where
     none-there : (all : List ℕ) → find test all ≡ None → has all x ≡ true → ⊥

@@ -1,5 +1,5 @@
 -- The law of isolation.
-use Rattle.desk_law.proofs.Common.{Activation, ◌≤◌, ◌≡◌, refl, ℕ, zero, suc, ◌+◌, ◌<◌, ◌==◌, ◌||◌, if◌then◌else◌, Bool, true, false, List, [], ◌∷◌, ◌++◌, length, map, find, Option, Some, None, slice_get, arith, ap, sym, ◌∙◌, subst, inl, inr, eqb-true, ne_eqb, ltb-true, FlatStore, IsWholeStore, has, Program, after, Event, Begin, Turn, Checkpoint, Crash, Desk, Active, opened, numbers, DiskWord, Failed, Counts, Turning, Going, Over, Idle, Committed, InFlight, instruction, turns, turn_of, no_counts, Turned, turned, begin_if, absent_segment, restarted, event_of, step, run, gone_on, row_done, IsAmong, IsConsistent, current_bytes, turn_desk, Machine, Memory, first_machine, with_machine, given_back, row_of, after_instruction, after_turns, after_event, memory_after, opening_memory, IsMemory, FindTheirOwn, RunsAreIsolated, CommitsTellTheMachine, SideBySideIsSerial, IsOrderly, nat_tests, next_attempt, begun, cases_Bool, granted, printed, run_serial}
+use Rattle.desk_law.proofs.Common.{Activation, ◌≤◌, ◌≡◌, refl, ℕ, zero, suc, ◌+◌, ◌<◌, ◌==◌, ◌||◌, if◌then◌else◌, Bool, true, false, List, [], ◌∷◌, ◌++◌, length, map, find, Option, Some, None, slice_get, arith, ap, sym, ◌∙◌, subst, inl, inr, eqb-true, ne_eqb, ltb-true, FlatStore, IsWholeStore, has, Program, after, Event, Begin, Turn, Checkpoint, Crash, Desk, Active, opened, numbers, DiskWord, Failed, Counts, Turning, Going, Over, Idle, Committed, InFlight, instruction, turns, turn_of, no_counts, Turned, turned, begin_if, absent_segment, restarted, event_of, step, run, gone_on, row_done, IsAmong, IsConsistent, current_bytes, turn_desk, Machine, Memory, first_machine, with_machine, given_back, row_by_entry, after_instruction, after_turns, after_event, memory_after, opening_memory, IsMemory, FindTheirOwn, RunsAreIsolated, CommitsTellTheMachine, SideBySideIsSerial, IsOrderly, nat_tests, next_attempt, begun, cases_Bool, granted, printed, run_serial}
 use Rattle.flat_machine.proofs.Agreement.{serial-whole}
 use Rattle.desk_law.proofs.Entries.{orderly, among-found, new-among, among-push, between, found-among, one-entry, numbers-replaced}
 use Rattle.desk_law.proofs.Others.{others, among-others, others-among}
@@ -43,7 +43,7 @@ module _ (old : Desk) (attempt : InFlight) (is : IsOrderly old) (here : IsAmong 
 
   the-row : (desk : Desk) (memory : Memory) → IsOrderly desk → RowDone old attempt desk → IsMemory old memory
       → IsMemory desk
-      (row_of desk.committed.directory (find (λ (entry : Active). entry.number == attempt.entry.number) desk.active) (given_back desk.committed.directory (numbers old) (numbers desk) memory))
+      (row_by_entry desk.committed.directory (find (λ (entry : Active). entry.number == attempt.entry.number) desk.active) (given_back desk.committed.directory (numbers old) (numbers desk) memory))
   the-row desk memory later done of =
       let then_orderly : IsOrderly (row_done attempt done.moment) = subst IsOrderly done.is later in
       let found : find (λ (entry : Active). entry.number == attempt.entry.number) (row_done attempt done.moment).active ≡ Some (gone_on attempt.entry) =
@@ -53,9 +53,9 @@ module _ (old : Desk) (attempt : InFlight) (is : IsOrderly old) (here : IsAmong 
       given-back old done.moment (numbers (row_done attempt done.moment)) memory done.moment.most_lines is done.granted.active (moment-fewer done.moment done.granted done.from)
       (λ number. ap (λ (these : List ℕ). has these number) (numbers-replaced (gone_on attempt.entry) done.moment.active)) of in
       subst
-      (λ (d : Desk). IsMemory d (row_of d.committed.directory (find (λ (entry : Active). entry.number == attempt.entry.number) d.active) (given_back d.committed.directory (numbers old) (numbers d) memory)))
+      (λ (d : Desk). IsMemory d (row_by_entry d.committed.directory (find (λ (entry : Active). entry.number == attempt.entry.number) d.active) (given_back d.committed.directory (numbers old) (numbers d) memory)))
       (sym done.is) (subst (IsMemory (row_done attempt done.moment))
-      (sym (ap (λ (one : Option Active). row_of done.moment.committed.directory one (given_back done.moment.committed.directory (numbers old) (numbers (row_done attempt done.moment)) memory)) found))
+      (sym (ap (λ (one : Option Active). row_by_entry done.moment.committed.directory one (given_back done.moment.committed.directory (numbers old) (numbers (row_done attempt done.moment)) memory)) found))
       (row-done done.moment attempt done.next (given_back done.moment.committed.directory (numbers old) (numbers (row_done attempt done.moment)) memory) done.granted done.went between_is))
 
   the-commit : (desk : Desk) (memory : Memory) (steps : ℕ) (printed : List ℕ) → CommitDone old attempt desk steps printed → IsMemory old memory

@@ -3,7 +3,7 @@
 use Rattle.desk_law.proofs.Common.{◌≡◌, refl, ℕ, ◌≤◌, ◌==◌, true, false, List, [], ◌∷◌, length, replicate, slice_index, Option, Some, None, option_map_or, sym, ◌∙◌, ap, inl, inr, both_ways, eq-eqb, FlatStore, IsWholeStore, Program, Plain, after, conflicts, Begin, Turn, Event, Desk, Active, opened, requested, due_to, conflicts_of, DiskWord, Fine, IsAmong, Machine, opening_memory, lit<, lit≤, Asking, RunState, run_by, RunsAreIsolatedBy}
 unfoldable use Rattle.desk.proofs.Common.{row_numbered}
 use Rattle.lines.specs.declared.line_geometry.PageSize.TheVariants.{Four, Two}
-unfoldable use Rattle.desk_law.specs.Asking.{instruction_by, turns_by}
+unfoldable use Rattle.desk_law.specs.Asking.{asked_instruction, turns_by}
 use Rattle.desk_law.specs.Rules.{conflicting, without_whole_pages, without_bits_off, without_read_meets_write, without_write_meets_read, without_kept_reads, IsolationRestsOnRules}
 
 -- a program with one window under register 1
@@ -83,7 +83,7 @@ as-they-stand desk entry = refl
 -- and alone 0. It does so too where no read meets a write. Where no write meets a read, or a read lock goes with its page, the first has loaded 0, and
 -- once the second has committed its 9 alone it loads that. And where the entry of a page stays, the page has an owner who isn't active.
 pub rules_needed : IsolationRestsOnRules
-unfolding turns_by instruction_by row_numbered
+unfolding turns_by asked_instruction row_numbered
 rules_needed = record {
   whole_pages = λ law. broken without_whole_pages plain stores_beside (active 2 writes_beside 5 2) 9 0 law refl (inr (inl refl)) refl refl refl;
   bits_off = λ law. broken without_bits_off fine stores_beside (active 2 writes_beside 5 2) 9 0 law refl (inr (inl refl)) refl refl refl;

@@ -38,9 +38,9 @@ attempts_by asking word attempt desk counts =
     (attempts word attempt attempt.outcome desk counts)
 
 -- an instruction of an entry, if there is one
-unfoldable pub instruction_by : Asking → DiskWord → Option Active → Desk → Counts → Turning
-instruction_by asking word None desk counts = Over desk counts Idle
-instruction_by asking word (Some entry) desk counts =
+unfoldable pub asked_instruction : Asking → DiskWord → Option Active → Desk → Counts → Turning
+asked_instruction asking word None desk counts = Over desk counts Idle
+asked_instruction asking word (Some entry) desk counts =
     option_map_or (λ now. attempts_by asking word (next_attempt desk entry now) desk counts)
     (after entry.runs.program entry.runs.args desk.committed entry.rows) (Over desk counts Idle)
 
@@ -48,7 +48,7 @@ instruction_by asking word (Some entry) desk counts =
 unfoldable pub turns_by : Asking → DiskWord → (number left : ℕ) → Turning → Memory → Turning × Memory
 turns_by asking word number zero (Going desk counts) memory = (Over desk counts Limit, memory)
 turns_by asking word number (suc left) (Going desk counts) memory =
-    let next = instruction_by asking word (find (λ (entry : Active). entry.number == number) desk.active) desk counts in
+    let next = asked_instruction asking word (find (λ (entry : Active). entry.number == number) desk.active) desk counts in
     turns_by asking word number left next (after_instruction number desk next memory)
 turns_by asking word number left turning memory = (turning, memory)
 
@@ -94,7 +94,7 @@ run_by asking names programs number (event ∷ events) desk memory =
 abbrev pub InstructionsAskAlike : Type 0
 InstructionsAskAlike =
     (word : DiskWord) (desk : Desk) (counts : Counts) (entry : Active) → IsOrderly desk → IsAmong desk.active entry
-    → instruction_by asks_refused word (Some entry) desk counts ≡ instruction word (Some entry) desk counts
+    → asked_instruction asks_refused word (Some entry) desk counts ≡ instruction word (Some entry) desk counts
 
 -- desk, memory, openness and lines are those of the run of the desk that asks at each row
 pub record IsRunOfDesk (names : List (List ℕ)) (programs : List Program) (number : ℕ) (events : List (Event × DiskWord)) (desk : Desk) (memory : Memory) (ran : RunState) : Type 0 where

@@ -47,9 +47,9 @@ does_row directory entry (Some machine) memory =
     memory_went_on entry.number (machine.wrote ++ (touched entry.runs.program directory now).writes) (row entry.runs.program directory now) memory
 
 -- the same of the entry with a number, if there is one
-abbrev pub row_of : Layout → Option Active → Memory → Memory
-row_of directory None memory = memory
-row_of directory (Some entry) memory = does_row directory entry (memory.machines entry.number) memory
+abbrev pub row_by_entry : Layout → Option Active → Memory → Memory
+row_by_entry directory None memory = memory
+row_by_entry directory (Some entry) memory = does_row directory entry (memory.machines entry.number) memory
 
 -- the lines that a machine wrote are committed
 abbrev pub commit_of : Layout → ℕ → Memory → Memory
@@ -58,7 +58,7 @@ commit_of directory number memory = record memory { committed = laid_lines direc
 -- the memory after an instruction of an activation at a desk, by how the turn is after it
 abbrev pub after_instruction : ℕ → Desk → Turning → Memory → Memory
 after_instruction number old (Going desk counts) memory =
-    row_of desk.committed.directory (find (λ (entry : Active). entry.number == number) desk.active)
+    row_by_entry desk.committed.directory (find (λ (entry : Active). entry.number == number) desk.active)
     (given_back desk.committed.directory (numbers old) (numbers desk) memory)
 after_instruction number old (Over desk counts (Committed steps printed)) memory =
     commit_of desk.committed.directory number (given_back desk.committed.directory (numbers old) (number ∷ numbers desk) memory)

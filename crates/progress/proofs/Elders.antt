@@ -3,6 +3,7 @@ use Rattle.desk_law.proofs.Common.{◌≡◌, refl, ℕ, zero, suc, ◌<◌, ◌
 use Rattle.std.proofs.lemmas.Bool.{cases_order}
 use Rattle.desk_law.proofs.Entries.{orderly, new-among, among-found, among-replaced, replaced-among}
 use Rattle.desk_law.proofs.Walks.{first-step, leads-more}
+use Rattle.desk_law.proofs.CyclesClose.{some-found}
 use Rattle.desk_law.proofs.Contest.{contending, rolled-contending, breaks-keep, left_over}
 use Rattle.desk_law.proofs.ContestRounds.{asker-left, victim-there, entry_with}
 use Rattle.desk_law.proofs.GoesOn.{marked-contending}
@@ -18,18 +19,6 @@ least-max (x ∷ xs) least = grind (arith, nat_tests, least-max xs (max least x)
 pub in-max : (xs : List ℕ) (least x : ℕ) → has xs x ≡ true → x ≤ fold max least xs
 in-max [] least x inside = absurd (cc)
 in-max (y ∷ xs) least x inside = grind (arith, nat_tests, in-max xs (max least y) x, least-max xs (max least y))
-
--- one that passes is found
-some-found : (test : ℕ → Bool) (all : List ℕ) (x : ℕ) → has all x ≡ true → test x ≡ true → (y : ℕ) × (find test all ≡ Some y)
-some-found test all x inside passes = by_found (find test all) refl
-  where
-    none-there : (all : List ℕ) → find test all ≡ None → has all x ≡ true → ⊥
-    none-there [] none inside = cc
-    none-there (y ∷ all) none inside = grind (arith, nat_tests, none-there all, passes)
-
-    by_found : (found : Option ℕ) → find test all ≡ found → (y : ℕ) × (find test all ≡ Some y)
-    by_found (Some y) is = (y, is)
-    by_found None is = absurd (none-there all is inside)
 
 -- nobody waits for himself
 pub self-free : (desk : Desk) (number : ℕ) → waits_for desk number number ≡ true → ⊥
