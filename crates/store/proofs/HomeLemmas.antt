@@ -5,7 +5,6 @@ use Rattle.lines.specs.Segments.{line_bytes}
 use Rattle.store.proofs.Newest.{bytes_of_line, newest_bytes, store_agrees, held_records, newest_within, same_lines}
 use Rattle.store.proofs.NoteLemmas.{drop-overlaid}
 use Rattle.store.specs.Below.{Wrote, copy_deeds}
-use Rattle.store.proofs.DeedLemmas.{whole}
 use Rattle.store.specs.Below.{Wrote, copy_deeds}
 
 pub same_behind : (k i : ℕ) (xs ys : List ℕ) → drop k xs ≡ drop k ys → k ≤ i → slice_index xs i ≡ slice_index ys i
@@ -102,6 +101,16 @@ module _ (header : Header) (which : Which) (base gate : ℕ) (records : List (Li
     homed = λ line place up below there.
         let other : line ≡ upto → ⊥ = λ same. let both : None ≡ Some place = sym none ∙ ap (λ (n : ℕ). newest_place n records) (sym same) ∙ there in cc in
         homed.homed line place (omega (arith, up, other)) below there;
+  }
+
+  -- and so are lines that no record has
+  pub homed_gap : (from to : ℕ) (image : List ℕ) → IsHomed header records held from image → ((line : ℕ) → from ≤ line → line < to → newest_place line records ≡ None) → IsHomed header records held to image
+  homed_gap from to image homed none = record {
+    covered = homed.covered;
+    homed = λ line place up below there. elim (cases_lt line from) [
+      | inl before ↦ homed.homed line place before below there
+      | inr behind ↦ let both : None ≡ Some place = sym (none line behind up) ∙ there in absurd (let no : ⊥ = cc in no)
+    ];
   }
 
   module _ (upto place : ℕ) (start : List ℕ) (homed : IsHomed header records held upto start) (below : upto < bound) (there : newest_place upto records ≡ Some place) where

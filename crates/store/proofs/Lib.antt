@@ -1,5 +1,6 @@
 pub mod Common
 pub mod GateLemmas
+pub mod PlaceLemmas
 pub mod FillLemmas
 pub mod NoteLemmas
 pub mod AppendLemmas

@@ -1,7 +1,7 @@
 -- The bank that the selector chooses.
 pub use Rattle.store_format.specs.Asked.{other, selector_of}
 use Rattle.std.specs.Prelude.{◌≡◌, ℕ, List, length, Result}
-use Rattle.store.specs.Below.{A, B, chosen, Ghosts, Header, held_of, IsStore, line_count, RecordLine, Which}
+use Rattle.store.specs.Below.{chosen, Ghosts, Header, held_of, IsStore, line_count, RecordLine, Which}
 use Rattle.store.specs.declared.open_fault.OpenFault.{OpenFault}
 use Rattle.store.specs.declared.open_fault.ReopenFault.{ReopenFault}
 use Rattle.store.specs.Kept.{BankView}

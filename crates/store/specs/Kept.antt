@@ -1,7 +1,7 @@
 -- The newest place of each line, and a bank as it is kept.
 pub use Rattle.store_format.specs.Bank.{place_in, newest_place}
-use Rattle.std.specs.Prelude.{◌≡◌, ℕ, ◌+◌, ◌*◌, ◌%◌, ◌^◌, Bool, true, List, [], ◌∷◌, ◌++◌, length, Option, None, Some, unwrap_or, ◌≢◌, ◌<◌, ◌≤◌, ◌==◌, if◌then◌else◌, fold, slice_index_or, All, IfSome}
-use Rattle.store.specs.Below.{A, B, entry_bytes, line_bytes, PageSize, RecordLine, Which, option_or, overlaid, bytes_at}
+use Rattle.std.specs.Prelude.{◌≡◌, ℕ, ◌+◌, ◌*◌, ◌%◌, ◌^◌, Bool, true, List, [], ◌∷◌, ◌++◌, length, Option, None, Some, unwrap_or, ◌≢◌, ◌<◌, ◌≤◌, fold, slice_index_or, All, IfSome}
+use Rattle.store.specs.Below.{A, B, entry_bytes, line_bytes, PageSize, RecordLine, Which, overlaid, bytes_at}
 
 -- these are the newest places of the lines in records
 abbrev pub AreNewest : List (Option ℕ) → List (List RecordLine) → Type 0

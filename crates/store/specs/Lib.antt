@@ -14,3 +14,4 @@ pub mod KeptStore
 pub mod Shows
 pub mod Faults
 pub mod Exact
+pub mod Places

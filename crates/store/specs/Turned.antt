@@ -1,7 +1,7 @@
 -- A bank that is turned to: the other one, without records.
 pub use Rattle.store_format.specs.Asked.{head_bytes}
-use Rattle.std.specs.Prelude.{ℕ, ◌+◌, List, [], ◌∷◌, ◌++◌, length, replicate, None, Result}
-use Rattle.store.specs.Below.{big_bytes, entry_bytes, Failed, Ghosts, option_map, PageSize, RecordLine, Which}
+use Rattle.std.specs.Prelude.{ℕ, ◌+◌, List, [], ◌∷◌, length, replicate, None, Result}
+use Rattle.store.specs.Below.{entry_bytes, Failed, Ghosts, option_map, PageSize, RecordLine, Which}
 use Rattle.store.specs.Held.{WritesOnce}
 use Rattle.store.specs.Kept.{BankView, bank_place, bank_number}
 

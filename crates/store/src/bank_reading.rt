@@ -6,8 +6,9 @@ ghost use Rattle.store.specs.Held.{HoldsAtLeast};
 ghost use Rattle.store.specs.Read.{IsNext, IsClosedIn, ReadsBank, ReadsGate, ReadsLines};
 
 use crate::keep::OPEN;
+use crate::places::Places;
 use byteorder::{BigEndian, ByteOrder};
-use lines::{OwnedList, PageSize};
+use lines::PageSize;
 use outside::{Failed, Outside};
 use store_format::entries_bytes;
 
@@ -29,7 +30,7 @@ pub enum BankFound {
 /// Reads the bank at a place, and notes the places of its lines.
 pub fn read_bank<W: Outside>(
     outside: &mut W,
-    newest: &mut OwnedList<Option<u64>>,
+    newest: &mut Places,
     page: PageSize,
     at: u64,
     bank_bytes: u32,
@@ -63,7 +64,7 @@ pub fn read_bank<W: Outside>(
 /// Reads the gate at a place of an area with this end, of which a record has this number.
 fn read_gate<W: Outside>(
     outside: &mut W,
-    newest: &mut OwnedList<Option<u64>>,
+    newest: &mut Places,
     page: PageSize,
     end: u64,
     due: u64,
@@ -106,7 +107,7 @@ fn read_gate<W: Outside>(
 /// Notes the places of so many lines from a place on. The answer is where the first wrong one lies.
 fn read_lines<W: Outside>(
     outside: &mut W,
-    newest: &mut OwnedList<Option<u64>>,
+    newest: &mut Places,
     page: PageSize,
     at: u64,
     count: u16,
@@ -128,7 +129,7 @@ fn read_lines<W: Outside>(
         if u64::from(line) < least || newest.len() <= line as usize {
             return Ok(Some(place));
         }
-        newest.write(line as usize, &[Some(place + 4)]);
+        newest.write(line as usize, place + 4);
         least = u64::from(line) + 1;
     }
     Ok(None)

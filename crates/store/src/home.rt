@@ -17,8 +17,10 @@ pub fn write_home<W: Outside>(bank: &Bank, buffer: &mut [u8], outside: &mut W) -
     requires room { HoldsAtLeast W.Outside (store_bytes bank.now) outside.old }
     ensures { WritesHome W.Outside bank.now outside.old outside.new result }
 {
-    for line in 0..bank.lines() {
+    let mut line = bank.first_held(0);
+    while line < bank.lines() {
         copy_newest(bank, buffer, outside, line)?;
+        line = bank.first_held(line + 1);
     }
     Ok(())
 }

@@ -12,6 +12,7 @@ mod newest_law;
 mod newest_lines;
 mod open_fault;
 mod opening;
+mod places;
 mod record_bytes;
 mod redo_journal;
 mod restart;

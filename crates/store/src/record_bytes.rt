@@ -1,9 +1,10 @@
 // The bytes of a record.
-ghost use Rattle.std.specs.Prelude.{◌≡◌, ◌+◌, ◌*◌, ◌++◌, ◌≤◌, ◌<◌, ◌^◌, length, take, drop, replicate, slice_index, None};
+ghost use Rattle.std.specs.Prelude.{◌≡◌, ◌+◌, ◌*◌, ◌++◌, ◌≤◌, ◌<◌, ◌^◌, length, take, drop, slice_index, None};
 ghost use Rattle.store.specs.Below.{big_bytes, body_lines, entry_bytes, number_at, wrong_line};
 ghost use Rattle.store.specs.Kept.{noted, StaysWithin};
 ghost use Rattle.store.specs.Turned.{head_bytes};
 
+use crate::places::Places;
 use byteorder::{BigEndian, ByteOrder};
 use lines::{OwnedList, PageSize};
 use store_format::entries_bytes;
@@ -51,7 +52,7 @@ pub fn word(number: u32) -> [u8; 4]
 }
 
 /// Notes the places of the lines of a record after a gate.
-pub fn note(newest: &mut OwnedList<Option<u64>>, body: &[u8], page: PageSize, gate: u64, count: u16)
+pub fn note(newest: &mut Places, body: &[u8], page: PageSize, gate: u64, count: u16)
     requires gate { gate < 2 ^ 20 }
     requires body { 10 + entry_bytes page * count ≤ length body.now }
     requires ordered { wrong_line (length newest.old) 0 (body_lines page count gate body.now) ≡ None }
@@ -62,15 +63,6 @@ pub fn note(newest: &mut OwnedList<Option<u64>>, body: &[u8], page: PageSize, ga
     for i in 0..count {
         let at = entries_bytes(page, i) as usize;
         let line = BigEndian::read_u32(&body[10 + at..]);
-        newest.write(line as usize, &[Some(gate + 15 + at as u64)]);
-    }
-}
-
-/// Forgets the newest places.
-pub fn forget(newest: &mut OwnedList<Option<u64>>)
-    ensures { newest.new ≡ replicate (length newest.old) None }
-{
-    for line in 0..newest.len() {
-        newest.write(line, &[None]);
+        newest.write(line as usize, gate + 15 + at as u64);
     }
 }

@@ -6,6 +6,7 @@ ghost use Rattle.store.specs.Kept.{BankView, bank_place, end_of, end_with, area_
 ghost use Rattle.store.specs.Appended.{Appends, CanAppend, IsUsable, TakesLine};
 ghost use Rattle.store.specs.Turned.{bank_turned, WritesHead};
 ghost use Rattle.store.specs.Held.{HoldsAtLeast};
+ghost use Rattle.store.specs.Places.{HaveNone};
 ghost use Rattle.store.specs.Opened.{IsRead, IsBankOf, AsksBankAgain, AsksOfBank, IsStartedAgain};
 ghost use Rattle.store.specs.Records.{ReadsRecord, ReadsLine};
 
@@ -13,7 +14,8 @@ use crate::bank_reading::{BankFound, read_bank};
 use crate::find::{Record, read_line, read_record};
 use crate::keep::{Appended, Kept, keep_body, write_once};
 use crate::open_fault::{OpenFault, ReopenFault};
-use crate::record_bytes::{fill, forget, head_of_bank, note, word};
+use crate::places::Places;
+use crate::record_bytes::{fill, head_of_bank, note, word};
 use lines::{OwnedList, PageSize};
 use outside::{Failed, Outside};
 use std::alloc::{AllocError, Global};
@@ -31,7 +33,7 @@ pub struct Bank {
     base: u64,
     count: u32,
     gate: u64,
-    newest: OwnedList<Option<u64>>,
+    newest: Places,
     begun: Option<u16>,
     spoiled: bool,
     body: OwnedList<u8>,
@@ -91,7 +93,7 @@ impl Bank {
             base: 0,
             count: 0,
             gate: 264,
-            newest: OwnedList::from_vec(vec![in alloc; None; lines]?),
+            newest: Places::none(alloc, lines)?,
             begun: None,
             spoiled: true,
             body: OwnedList::from_vec(vec![in alloc; 0; bank_bytes as usize]?),
@@ -112,7 +114,7 @@ impl Bank {
         ensures turned { OnOk result (self.new.which ≡ which) }
         ensures read { OnOk result (IfTold W.Outside outside.old (λ held. IsRead held self.new)) }
     {
-        forget(&mut self.newest);
+        self.newest.forget();
         let at = place_of(which, self.bank_bytes);
         self.which = which;
         self.count = 0;
@@ -189,6 +191,16 @@ impl Bank {
         ensures within { IfSome result (λ at. at + line_bytes_of self.now ≤ area_end self.now) }
     {
         self.newest.as_slice()[line as usize]
+    }
+
+    /// The first line from one on that a record of the bank holds; as many as the store has where none does.
+    pub(crate) fn first_held(&self, from: u32) -> u32
+        requires { from ≤ length self.now.newest }
+        ensures least { from ≤ result }
+        ensures within { result ≤ length self.now.newest }
+        ensures before { HaveNone self.now.newest from result }
+    {
+        self.newest.first_from(from as usize) as u32
     }
 
     /// Whether a record of the bank holds one of so many lines from a first on.
@@ -280,8 +292,7 @@ impl Bank {
         self.which = which;
         self.count = 0;
         self.gate = place_of(which, self.bank_bytes) + 8;
-        let newest = &mut self.newest;
-        forget(newest);
+        self.newest.forget();
     }
 
     /// Begins a record, in place of any other that was begun.

@@ -6,9 +6,9 @@ pub returns-in-Ok-Holds-clause-read : goal.returns-in-Ok-Holds-clause-read
 returns-in-Ok-Holds-clause-read g c told =
     let held = held_of g.W.Outside c.args.outside.now in
     let bytes = c.self.inside.bank_bytes in
-    let lines = length c.forget.new.newest in
+    let lines = length c.forget.new.self in
     let at : c.place_of-at.result ≡ bank_place c.args.which bytes = c.place_of-at.ensures.value in
-    let found = subst (λ (found : BankFound). IsBank found c.forget.new.newest c.read_bank.new.newest (number_at held c.place_of-at.result 8) (bank_held held c.self.inside.page lines c.place_of-at.result bytes)) c.in-Ok-Holds.field-0-is (c.in-Ok-Holds.ensures.found told) in
+    let found = subst (λ (found : BankFound). IsBank found c.forget.new.self c.read_bank.new.newest (number_at held c.place_of-at.result 8) (bank_held held c.self.inside.page lines c.place_of-at.result bytes)) c.in-Ok-Holds.field-0-is (c.in-Ok-Holds.ensures.found told) in
     let holds : bank_held held c.self.inside.page lines (bank_place c.args.which bytes) bytes ≡ Holds c.in-Ok-Holds.gate found.1.records = ap (λ (n : ℕ). bank_held held c.self.inside.page lines n bytes) (sym at) ∙ found.1.holds in
     let whole = c.requires.room held (told_some (g.W.Outside.held c.args.outside.now) told) in
     let end : end_of c.args.which bytes ≡ end_of c.args.which c.args.self.now.bank_bytes = ap (λ (bank : BankView). end_of c.args.which bank.bank_bytes) c.self.view_is in

@@ -7,7 +7,7 @@ invariant_of-self c =
     let bank = c.self.inside in
     let count = begun_count bank in
     let at = c.place_of.result in
-    let long : length c.forget.new.newest ≡ length bank.newest = ap length c.forget.ensures ∙ length-replicate {A = Option ℕ} (length bank.newest) None in
+    let long : length c.forget.new.self ≡ length bank.newest = ap length c.forget.ensures ∙ length-replicate {A = Option ℕ} (length bank.newest) None in
     record {
       some_bytes = old.some_bytes;
       few_bytes = old.few_bytes;
@@ -18,17 +18,17 @@ invariant_of-self c =
       buffer = old.buffer;
       fits = old.fits;
       ordered =
-          ap (λ (lines : List RecordLine). wrong_line (length c.forget.new.newest) 0 lines) (lines_placed c.self.inside.page count (at + 8 + 11) (bank.gate + 11) (drop 10 bank.body))
-          ∙ placed_order c.self.inside.page (length c.forget.new.newest) 0 (at + 8 + 11) (begun_lines bank) (ap (λ (n : ℕ). wrong_line n 0 (begun_lines bank)) long ∙ old.ordered);
+          ap (λ (lines : List RecordLine). wrong_line (length c.forget.new.self) 0 lines) (lines_placed c.self.inside.page count (at + 8 + 11) (bank.gate + 11) (drop 10 bank.body))
+          ∙ placed_order c.self.inside.page (length c.forget.new.self) 0 (at + 8 + 11) (begun_lines bank) (ap (λ (n : ℕ). wrong_line n 0 (begun_lines bank)) long ∙ old.ordered);
     }
 
 pub returns-clause-turned : goal.returns-clause-turned
 returns-clause-turned c =
-    turned_is c.args.which c.self.inside c.args.self.now c.number_of-self-inside.result c.place_of.result c.forget.new.newest c.self.view_is c.number_of-self-inside.ensures c.place_of.ensures.value c.forget.ensures
+    turned_is c.args.which c.self.inside c.args.self.now c.number_of-self-inside.result c.place_of.result c.forget.new.self c.self.view_is c.number_of-self-inside.ensures c.place_of.ensures.value c.forget.ensures
 
 pub returns-clause-fits : goal.returns-clause-fits
 returns-clause-fits c =
-    let fields = turned_fields c.args.which c.self.inside c.number_of-self-inside.result c.place_of.result c.forget.new.newest in
+    let fields = turned_fields c.args.which c.self.inside c.number_of-self-inside.result c.place_of.result c.forget.new.self in
     omega (arith, ap (λ (n : ℕ). entry_bytes c.self.inside.page * n) (length-begun fields (kept_of fields) refl), c.place_of.ensures.end, c.self.invariant.fits)
 
 pub returns-clause-shape : goal.returns-clause-shape
