@@ -1,0 +1,31 @@
+"""Compiles programs in C to programs of a job (docs/GUIDE.md, "In C").
+
+What comes out is a text of the assembler, which the program reads as any other. source.py reads a file, with pycparser;
+names.py, kinds.py and expressions.py say what it means; statements.py and lower.py make steps of it, and improve.py and
+inline.py fewer; settle.py and registers.py give these registers, rows.py rows; whole.py and layout.py make the program.
+"""
+from __future__ import annotations
+
+from typing import NamedTuple
+
+from romp801.compiler.unit import Shared, Unit
+
+
+class Source(NamedTuple):
+    """The files of a program, read."""
+
+    units: list[Unit]
+    shared: Shared
+
+
+def read(paths: list[str]) -> Source:
+    """Reads files; raises Refused at the first place that isn't compiled."""
+    from romp801.compiler import source
+
+    shared = Shared()
+    units = []
+    for number, path in enumerate(paths):
+        unit = Unit(shared, number)
+        unit.read(source.tree_of(path, []))
+        units.append(unit)
+    return Source(units, shared)
