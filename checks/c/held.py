@@ -14,7 +14,7 @@ from romp801 import Failure, compiler  # noqa: E402
 from romp801.compiler.layout import TooLarge  # noqa: E402
 
 GCC = ("gcc", "-m32", "-O0", "-w", "-fwrapv", "-funsigned-char", "-fno-strict-aliasing", "-ffreestanding", "-nostdlib", "-static",
-       "-fno-stack-protector", "-fno-pic", "-no-pie", "-std=gnu11", f"-I{TOP}/python/romp801/compiler/include")
+       "-fno-stack-protector", "-fno-pic", "-no-pie", "-std=gnu11", f"-I{TOP}/python/romp801/compiler/include", f"-I{HERE}")
 ROUNDS, ROWS = 20, 1000000
 """Turns that a program is given, and their rows."""
 
@@ -61,9 +61,8 @@ def there(program: str, text: str, entry: str, values: Sequence[int]) -> "tuple[
 
 def compiled(paths: Sequence[str], entry: str) -> "tuple[str, int]":
     """The program's text and its bytes; raises Failure where it is refused."""
-    from romp801.compiler.whole import Whole
-    found = compiler.read(list(paths))
-    done = Whole(found.units, found.shared, entry).finish()
+    found = compiler.read(paths, (f"-I{HERE}",))
+    done = found.program(entry)
     return "".join(f"{it}\n" for it in done.lines), done.size
 
 

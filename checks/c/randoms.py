@@ -55,7 +55,7 @@ class Maker:
         return r.choice([
             *names, *names, f"g[{r.randrange(8)}]", f"g[{i()} & 7]", f"h[{i()} % 8u].{r.choice('abcd')}", f"own[{i()} & 3]",
             f"text[{i()} & 15]", f"grid[{i()} % 3u][{i()} % 5u]", "one.x", f"two.t[{i()} % 3u]", "one.r.b", "start.x", "two.r.c",
-            f"(&h[3])[-(int)({i()} & 3)].b", f"*(text + ({i()} & 15))", f"(*(&grid[1]))[{i()} % 5u]"])
+            f"(&h[3])[-(int)({i()} & 3)].b", f"(*(text + ({i()} & 15)))", f"(*(&grid[1]))[{i()} % 5u]"])
 
     def leaf(self, names: List[str]) -> str:
         """A value without operators."""

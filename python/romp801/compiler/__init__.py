@@ -6,9 +6,10 @@ inline.py fewer; settle.py and registers.py give these registers, rows.py rows; 
 """
 from __future__ import annotations
 
-from typing import NamedTuple
+from typing import NamedTuple, Sequence
 
 from romp801.compiler.unit import Shared, Unit
+from romp801.compiler.whole import Finished, Whole
 
 
 class Source(NamedTuple):
@@ -17,15 +18,19 @@ class Source(NamedTuple):
     units: list[Unit]
     shared: Shared
 
+    def program(self, function: str) -> Finished:
+        """The program that begins at a function; raises Refused."""
+        return Whole(self.units, self.shared, function).finish()
 
-def read(paths: list[str]) -> Source:
-    """Reads files; raises Refused at the first place that isn't compiled."""
+
+def read(paths: Sequence[str], options: Sequence[str] = ()) -> Source:
+    """Reads files, with options for the preprocessor; raises Refused at the first place that isn't compiled."""
     from romp801.compiler import source
 
     shared = Shared()
     units = []
     for number, path in enumerate(paths):
         unit = Unit(shared, number)
-        unit.read(source.tree_of(path, []))
+        unit.read(source.tree_of(path, options))
         units.append(unit)
     return Source(units, shared)

@@ -3,7 +3,7 @@ from __future__ import annotations
 
 from typing import Optional
 
-from romp801.compiler.code import STACK, Block, Body, End, Reg, Slot, Spot, Step, Thing, Value
+from romp801.compiler.code import STACK, Block, Body, End, Reg, Slot, Spot, Step, Value
 
 
 class Cloner:
@@ -79,5 +79,3 @@ def clone(body: Body) -> Body:
     found.place = body.place
     return found
 
-
-_ = Thing

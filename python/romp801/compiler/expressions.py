@@ -147,11 +147,11 @@ class Expressions:
             base = self.value(node.name)
             if not isinstance(base.type, Pointer):
                 raise refused(node, f"-> wants an address, and not {base.type}")
-            of: Expr = tree.At(base.type.to, place, base)
+            of: Lvalue = tree.At(base.type.to, place, base)
         else:
-            of = self.any(node.name)
-            if not isinstance(of, (tree.Named, tree.At, tree.Made)):
-                of = self._kept(node, of)
+            found_place = self.any(node.name)
+            is_place = isinstance(found_place, (tree.Named, tree.At, tree.Made))
+            of = found_place if is_place else self._kept(node, found_place)  # type: ignore[assignment]
         if not isinstance(of.type, Record):
             raise refused(node, f"{of.type} has no members")
         found = of.type.find(node.field.name)
@@ -163,7 +163,7 @@ class Expressions:
             return tree.Named(found.type, place, of.variable, of.offset + found.offset)
         return tree.At(found.type, place, self.address(of, Pointer(of.type)), found.offset)
 
-    def _kept(self, node: Any, it: Expr) -> Expr:
+    def _kept(self, node: Any, it: Expr) -> Lvalue:
         """A record that is a value, as a place of its own."""
         if not isinstance(it.type, Record):
             raise refused(node, f"{it.type} has no members")
@@ -261,13 +261,14 @@ class Expressions:
 
     def arithmetic(self, node: Any, op: str, one: Expr, other: Expr) -> Expr:
         """Arithmetic of two integers."""
-        if not isinstance(one.type, Int) or not isinstance(other.type, Int):
+        left, right = one.type, other.type
+        if not isinstance(left, Int) or not isinstance(right, Int):
             raise refused(node, f"{op} isn't had of {one.type} and {other.type}")
         if op in ("<<", ">>"):
-            its = kinds.promoted(one.type)
-            one, other = as_int(one, its), as_int(other, kinds.promoted(other.type))
+            its = kinds.promoted(left)
+            one, other = as_int(one, its), as_int(other, kinds.promoted(right))
         else:
-            its = kinds.common(one.type, other.type)
+            its = kinds.common(left, right)
             one, other = as_int(one, its), as_int(other, its)
         name = {"/": "div", "%": "rem"}.get(op) or ARITHMETIC[op]
         if name in ("div", "rem"):
@@ -315,8 +316,8 @@ class Expressions:
     def _compared(self, node: Any, one: Expr, other: Expr) -> Expr:
         place, name = Place.of(node), COMPARISONS[node.op]
         if isinstance(one.type, Pointer) or isinstance(other.type, Pointer):
-            for it, its in ((one, other), (other, one)):
-                if isinstance(it.type, Int) and not (tree.is_zero(it) and isinstance(its.type, Pointer)):
+            for it, beside in ((one, other), (other, one)):
+                if isinstance(it.type, Int) and not (tree.is_zero(it) and isinstance(beside.type, Pointer)):
                     raise refused(node, f"{one.type} isn't compared with {other.type}")
             one, other = retyped(one, kinds.UINT), retyped(other, kinds.UINT)
         if not isinstance(one.type, Int) or not isinstance(other.type, Int):

@@ -3,7 +3,7 @@ from __future__ import annotations
 
 from typing import Any, Optional
 
-from romp801.compiler import kinds, tree
+from romp801.compiler import tree
 from romp801.compiler.code import Data, word
 from romp801.compiler.expressions import Expressions, string_of
 from romp801.compiler.faults import refused
@@ -174,5 +174,3 @@ def is_text(its: Type, node: Any) -> bool:
         and node.type == "string"
     )
 
-
-_ = kinds

@@ -6,7 +6,7 @@ from typing import Optional, Union
 from romp801.compiler import kinds, tree
 from romp801.compiler.code import TURNED, Block, Body, Code, End, Reg, Slot, Spot, Step, Symbol, Value, word
 from romp801.compiler.faults import Place
-from romp801.compiler.kinds import Array, Int, Pointer, Record, Type
+from romp801.compiler.kinds import Array, Int, Record, Type
 from romp801.compiler.tree import Expr, Lvalue, Variable
 
 INLINE = 64
@@ -323,7 +323,7 @@ class Lowering:
 
     def _Service(self, it: tree.Service) -> Value:
         args = [self.value(one) for one in it.args]
-        self.add(Step("service", None, *args, offset=it.number))
+        self.add(Step("service", None, args[0] if args else None, offset=it.number))
         if it.number != 1:
             self.block.end = End("stop", self.place)
             self.begin(Block())
@@ -425,5 +425,3 @@ def is_plain(it: Expr) -> bool:
         return is_plain(it.one) and is_plain(it.other)
     return False
 
-
-_ = Pointer

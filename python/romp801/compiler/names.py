@@ -4,7 +4,7 @@ from __future__ import annotations
 from typing import Any, Callable, NamedTuple, Optional, Union
 
 from romp801.compiler import kinds
-from romp801.compiler.code import Code, Thing
+from romp801.compiler.code import Thing
 from romp801.compiler.faults import Refused, refused
 from romp801.compiler.kinds import Array, Function, Int, Pointer, Record, Type
 from romp801.compiler.tree import Variable
@@ -226,8 +226,3 @@ def decayed(its: Type) -> Type:
     if isinstance(its, Array):
         return Pointer(its.of)
     return Pointer(its) if isinstance(its, Function) else its
-
-
-def is_code(it: Entity) -> bool:
-    """Whether a name is a function's."""
-    return isinstance(it, Code)

@@ -6,13 +6,12 @@ from typing import Callable, Optional
 from romp801.compiler import flow
 from romp801.compiler.code import ROUTINES, Block, Body, Reg, Slot, Spot, Step, Value
 
-FIRST, LAST, LINK = 2, 15, 15
+LINK = 15
 ARGUMENTS = (2, 3, 4, 5)
 SCRATCH = (2, 3, 4, 5, 6, 7)
 """Registers that a function may leave changed; with the one that links."""
 KEPT = (14, 13, 12, 11, 10, 9, 8)
 """Registers that a function leaves as they were."""
-ALL = sum(1 << it for it in range(FIRST, LAST + 1))
 CHANGED = sum(1 << it for it in (*SCRATCH, LINK))
 CHEAP = 0.01
 
@@ -76,8 +75,8 @@ class Graph:
         weight = 10.0**block.depth
         live = self.live
         bits = live.behind[block] | live.mask(block.end.uses())
-        for it in block.end.uses():
-            self.cost[self.index[it]] += weight
+        for one in block.end.uses():
+            self.cost[self.index[one]] += weight
         if block.end.op == "return":
             self.wish(block.end.a, 2, weight)
         for it in reversed(block.steps):
@@ -107,8 +106,8 @@ class Graph:
             for one in self.live.of(across):
                 self.allowed[self.index[one]] &= ~changed
         if it.op == "call":
-            for place, one in enumerate(it.args[: len(ARGUMENTS)]):
-                self.wish(one, ARGUMENTS[place], weight)
+            for place, given in enumerate(it.args[: len(ARGUMENTS)]):
+                self.wish(given, ARGUMENTS[place], weight)
             if isinstance(it.a, Reg):
                 taken = sum(1 << ARGUMENTS[at] for at in range(min(len(it.args), len(ARGUMENTS))))
                 self.allowed[self.index[it.a]] &= ~(taken | 1 << LINK)
@@ -330,5 +329,3 @@ def allocate(
             members.setdefault(found.find(graph.index[it]), []).append(it)
         spill(body, [one for it in found.spilled for one in members[graph.index[it]]], fixed, unspillable)
 
-
-_ = (CHANGED, ALL)

@@ -18,7 +18,6 @@ from romp801.compiler.code import (
     Thing,
     Value,
     signed,
-    word,
 )
 from romp801.compiler.faults import Place
 from romp801.compiler.registers import ARGUMENTS, KEPT, LINK, Coloring
@@ -586,5 +585,3 @@ def _touches(before: Row, branch: Row) -> bool:
         return True
     return before.to >= 0 and bool(branch.takes >> before.to & 1)
 
-
-_ = word

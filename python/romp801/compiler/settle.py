@@ -1,10 +1,8 @@
 """Gives each step the operands that instructions have: what isn't an immediate number becomes a register's."""
 from __future__ import annotations
 
-from typing import Optional
-
 from romp801.compiler import flow
-from romp801.compiler.code import STACK, Block, Body, Reg, Slot, Spot, Step, Symbol, Value, signed, word
+from romp801.compiler.code import Block, Body, Reg, Slot, Spot, Step, Symbol, Value, signed, word
 
 IN_REGISTERS = 4
 """Parameters that come in registers."""
@@ -139,18 +137,16 @@ class Settler:
     def _place(self) -> None:
         """Puts each constant where all that take it come by, and outside of loops."""
         above = flow.depths(self.body)
-        first: dict[Block, list[Step]] = {}
         for value, blocks in self.uses.items():
             there = blocks[0]
             for it in blocks[1:]:
                 there = _common(there, it, above)
             while there.depth and above[there] is not there:
                 there = above[there]
-            step = Step("move", self.constants[value], value, place=there.end.place)
-            at = next((place for place, it in enumerate(there.steps) if step.to in it.uses()), len(there.steps))
+            step = Step("move", self.constants[value], value)
+            at = next((at for at, it in enumerate(there.steps) if step.to in it.uses()), len(there.steps))
             step.place = there.steps[at].place if at < len(there.steps) else there.end.place
             there.steps.insert(at, step)
-        del first
 
 
 def _common(one: Block, other: Block, above: dict[Block, Block]) -> Block:
@@ -167,11 +163,3 @@ def _common(one: Block, other: Block, above: dict[Block, Block]) -> Block:
 def fits(value: int) -> bool:
     """Whether a number is one of sixteen bits with a sign."""
     return -0x8000 <= signed(value) < 0x8000
-
-
-def slot_of(value: Optional[Value]) -> Optional[Slot]:
-    """The slot that a value is an address in."""
-    return value.slot if isinstance(value, Spot) else None
-
-
-_ = STACK

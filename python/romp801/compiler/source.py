@@ -4,21 +4,23 @@ from __future__ import annotations
 import os
 import re
 import subprocess
-from typing import Any
+from typing import Any, Sequence
 
 from romp801 import files
 from romp801.compiler.faults import Place, Refused
 from romp801.errors import FAILED, Failure
 
-HEADERS = os.path.join(os.path.dirname(os.path.realpath(__file__)), "include")
+HERE = os.path.dirname(os.path.realpath(__file__))
+HEADERS = tuple(os.path.join(HERE, it) for it in ("include", "library"))
 DEFINED = ("-D__romp801__=1", "-U__GNUC__", "-D__CHAR_UNSIGNED__=1", "-D__STDC_VERSION__=201112L")
 SPOT = re.compile(r"(?P<file>.*?):(?P<line>\d+):(?P<column>\d+): (?:before: )?(?P<why>.*)", re.S)
 
 
-def preprocessed(path: str, folders: list[str]) -> str:
+def preprocessed(path: str, options: Sequence[str]) -> str:
     """The text of a file without its directives."""
     files.read_bytes(path)
-    words = ["-nostdinc", "-undef", "-std=c11", *DEFINED, "-isystem", HEADERS, *(f"-I{it}" for it in folders), path]
+    folders = [word for it in HEADERS for word in ("-isystem", it)]
+    words = ["-nostdinc", "-undef", "-std=c11", *DEFINED, *options, *folders, path]
     try:
         done = subprocess.run(["cpp", *words], stdin=subprocess.DEVNULL, capture_output=True, check=False)
     except OSError as error:
@@ -28,15 +30,15 @@ def preprocessed(path: str, folders: list[str]) -> str:
     return done.stdout.decode("latin-1")
 
 
-def tree_of(path: str, folders: list[str]) -> Any:
+def tree_of(path: str, options: Sequence[str]) -> Any:
     """The tree of a file."""
     try:
-        from pycparser import c_parser
+        from pycparser import c_parser  # type: ignore[import]
     except ImportError as error:
         raise Failure(
             "there is no pycparser, the parser of C, which the package python3-pycparser has", FAILED
         ) from error
-    text = preprocessed(path, folders)
+    text = preprocessed(path, options)
     errors: tuple[type[Exception], ...] = (getattr(c_parser, "ParseError", SyntaxError), AssertionError)
     try:
         return c_parser.CParser().parse(text, path)
@@ -46,8 +48,3 @@ def tree_of(path: str, folders: list[str]) -> Any:
             raise Refused(Place(path, 0), f"this is no C that the parser knows: {error}") from error
         place = Place(found["file"], int(found["line"]), int(found["column"]))
         raise Refused(place, f"this is no C that the parser knows, at {found['why']}") from error
-
-
-def folders_for(paths: list[str]) -> list[str]:
-    """The folders in which the files of a program are, which its headers may be in."""
-    return sorted({os.path.dirname(it) or "." for it in paths})

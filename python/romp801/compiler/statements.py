@@ -3,8 +3,8 @@ from __future__ import annotations
 
 from typing import Any, Iterator, Optional
 
-from romp801.compiler import kinds, tree
-from romp801.compiler.code import Block, Body, Code, Data, End, Reg, Step, signed, word
+from romp801.compiler import kinds
+from romp801.compiler.code import Block, Body, Code, Data, End, Reg, Symbol, Value, signed, word
 from romp801.compiler.expressions import Expressions
 from romp801.compiler.faults import Place, refused
 from romp801.compiler.initial import Initial
@@ -163,7 +163,7 @@ class Statements(Lowering):
         if isinstance(where, Memory) and first.is_constant() and len(first.stores) > 16:
             data = self.outer.image(its)
             first.fill(data, node)
-            self.copy(where, Memory(tree_address(data)), its)
+            self.copy(where, Memory(Symbol(data)), its)
         elif isinstance(where, Memory):
             self.fill(where, its, first.stores)
         else:
@@ -306,15 +306,15 @@ class Statements(Lowering):
         self.jump(over)
         self.begin(over)
 
-    def _choose(self, value: "int | Reg | object", cases: list[tuple[int, Block]], default: Block) -> None:
+    def _choose(self, value: Value, cases: list[tuple[int, Block]], default: Block) -> None:
         """Goes to the case of a value."""
         if len(cases) > FEW:
             middle = len(cases) // 2
             number, block = cases[middle]
             not_it, less, more = Block(), Block(), Block()
-            self.branch("eq", value, number, block, not_it)  # type: ignore[arg-type]
+            self.branch("eq", value, number, block, not_it)
             self.begin(not_it)
-            self.branch("lt", value, number, less, more)  # type: ignore[arg-type]
+            self.branch("lt", value, number, less, more)
             self.begin(less)
             self._choose(value, cases[:middle], default)
             self.begin(more)
@@ -322,7 +322,7 @@ class Statements(Lowering):
             return
         for number, block in cases:
             other = Block()
-            self.branch("eq", value, number, block, other)  # type: ignore[arg-type]
+            self.branch("eq", value, number, block, other)
             self.begin(other)
         self.jump(default)
 
@@ -336,13 +336,6 @@ class Statements(Lowering):
             self.statement(it)
 
     _on_Default = _on_Case
-
-
-def tree_address(data: Data) -> "object":
-    """The address of data."""
-    from romp801.compiler.code import Symbol
-
-    return Symbol(data)
 
 
 def hold(reads: Expressions, node: Any) -> None:
@@ -372,5 +365,3 @@ def labels_of(node: Any) -> Iterator[Any]:
         for _, child in node.children():
             yield from labels_of(child)
 
-
-_ = (tree, Step)

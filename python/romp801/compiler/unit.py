@@ -5,8 +5,8 @@ from typing import Any, NamedTuple, Optional
 
 from romp801.compiler import kinds
 from romp801.compiler.code import Code, Data, Thing
-from romp801.compiler.expressions import Expressions
-from romp801.compiler.faults import Refused, refused
+from romp801.compiler.expressions import SERVICES, Expressions
+from romp801.compiler.faults import refused
 from romp801.compiler.initial import Initial
 from romp801.compiler.kinds import Array, Function, Int, Type
 from romp801.compiler.names import Meaning, Names
@@ -204,6 +204,8 @@ class Unit(Outer):
             raise refused(node, "this isn't a function")
         if its.parameters is None:
             its = Function(its.result, ())
+        if node.decl.name in SERVICES:
+            raise refused(node.decl, f"{node.decl.name} is a call of the machine")
         code = self._code(node.decl, its, "static" in (node.decl.storage or []))
         if code.body is not None or code.unit is not None:
             raise refused(node.decl, f"{code.name} is defined already")
@@ -283,5 +285,3 @@ def same(one: Type, other: Type) -> bool:
         return one == other
     return kinds.agree(one, other)
 
-
-_ = Refused

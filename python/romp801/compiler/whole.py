@@ -1,17 +1,17 @@
 """A program of files of C: what of them it needs, in the assembler's words."""
 from __future__ import annotations
 
-from typing import Iterable, Iterator, NamedTuple, Optional
+from typing import Iterator, NamedTuple, Optional
 
 from romp801.compiler import routines
 from romp801.compiler.clone import clone
-from romp801.compiler.code import ROUTINES, Block, Body, Code, Data, Reg, Slot, Spot, Step, Symbol, Thing, Value
+from romp801.compiler.code import ROUTINES, Body, Code, Data, Reg, Step, Symbol, Thing
 from romp801.compiler.faults import Refused
 from romp801.compiler.improve import improve
 from romp801.compiler.inline import inline
-from romp801.compiler.kinds import Array, Function, Int, Record
+from romp801.compiler.kinds import Function, Int, Record
 from romp801.compiler.registers import CHANGED, LINK, SCRATCH, Coloring, allocate
-from romp801.compiler.rows import TOP, Emitter, Line, Row
+from romp801.compiler.rows import Emitter, Line
 from romp801.compiler.settle import Settler
 from romp801.compiler.unit import Shared, Unit
 
@@ -293,5 +293,3 @@ def _things(body: Body) -> Iterator[Thing]:
             if isinstance(one, Symbol):
                 yield one.thing
 
-
-_ = (Iterable, Array, Slot, Spot, Value, Block, Row, TOP)
