@@ -14,7 +14,9 @@ from romp801 import Failure, compiler  # noqa: E402
 from romp801.compiler.layout import TooLarge  # noqa: E402
 
 GCC = ("gcc", "-m32", "-O0", "-w", "-fwrapv", "-funsigned-char", "-fno-strict-aliasing", "-ffreestanding", "-nostdlib", "-static",
-       "-fno-stack-protector", "-fno-pic", "-no-pie", "-std=gnu11", f"-I{TOP}/python/romp801/compiler/include", f"-I{HERE}")
+       "-fno-stack-protector", "-Wl,--allow-multiple-definition", "-fno-pic", "-no-pie", "-std=gnu11", f"-I{TOP}/python/romp801/compiler/include", f"-I{HERE}",
+       f"-I{TOP}/python/romp801/compiler/library")
+LIBRARY = TOP / "python/romp801/compiler/library/string.c"
 ROUNDS, ROWS = 20, 1000000
 """Turns that a program is given, and their rows."""
 
@@ -31,8 +33,8 @@ class Outcome(NamedTuple):
 def here(folder: str, paths: Sequence[str], entry: str, values: Sequence[int], seconds: float = 5.0) -> Optional[bytes]:
     """What the program prints here; None where it doesn't end in time. It ends with 8 where it gives up."""
     given = ",".join(f"{it}u" for it in values)
-    built = subprocess.run([*GCC, "-o", f"{folder}/host", str(HERE / "host.c"), *paths[1:], f"-DENTRY={entry}", f"-DVALUES={given}",
-                            f'-DSOURCE="{os.path.abspath(paths[0])}"'],
+    built = subprocess.run([*GCC, "-o", f"{folder}/host", str(HERE / "host.c"), *paths[1:], str(LIBRARY), f"-DHOST_ENTRY={entry}", f"-DHOST_VALUES={given}",
+                            f'-DHOST_SOURCE="{os.path.abspath(paths[0])}"'],
                            capture_output=True, check=False)
     if built.returncode:
         raise ValueError(built.stderr.decode(errors="replace")[:300])

@@ -1,6 +1,6 @@
 /* The three calls of a program on a machine of 32 bits, without any library: what is printed goes to standard output as
-   the program commits; giving up ends with 8. ENTRY is a function of
-   the file SOURCE, and VALUES what it is given. */
+   the program commits; giving up ends with 8. HOST_ENTRY is a function of
+   the file HOST_SOURCE, and HOST_VALUES what it is given. */
 static unsigned char host_printed[1 << 16];
 static unsigned host_count;
 
@@ -49,10 +49,10 @@ void give_up(void)
         host_call(1, 8, 0, 0);
 }
 
-#include SOURCE
+#include HOST_SOURCE
 
 __attribute__((force_align_arg_pointer)) void _start(void)
 {
-    ENTRY(VALUES);
+    HOST_ENTRY(HOST_VALUES);
     commit();
 }

@@ -8,6 +8,7 @@ from __future__ import annotations
 
 from typing import NamedTuple, Sequence
 
+from romp801.compiler.code import Code
 from romp801.compiler.unit import Shared, Unit
 from romp801.compiler.whole import Finished, Whole
 
@@ -28,9 +29,18 @@ def read(paths: Sequence[str], options: Sequence[str] = ()) -> Source:
     from romp801.compiler import source
 
     shared = Shared()
-    units = []
-    for number, path in enumerate(paths):
-        unit = Unit(shared, number)
+    units: list[Unit] = []
+    for path in paths:
+        unit = Unit(shared, len(units))
         unit.read(source.tree_of(path, options))
         units.append(unit)
+    if any(it.unit is None and isinstance(it, Code) and it.name in source.LIBRARY for it in shared.things.values()):
+        unit = Unit(shared, len(units))
+        unit.read(source.tree_of(source.library(), (), kept=set(source.LIBRARY) - _defined(shared)))
+        units.append(unit)
     return Source(units, shared)
+
+
+def _defined(shared: Shared) -> set[str]:
+    """The functions that have bodies."""
+    return {name for name, it in shared.things.items() if it.unit is not None}

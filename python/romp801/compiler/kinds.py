@@ -166,18 +166,31 @@ def common(one: Int, other: Int) -> Int:
     return INT if one.signed and other.signed else UINT
 
 
-def agree(one: Type, other: Type) -> bool:
-    """Whether two types are one, but for signs and for what isn't told."""
+def agree(one: Type, other: Type, known: tuple[tuple[Type, Type], ...] = ()) -> bool:
+    """Whether two types are one, but for signs and for what isn't told. `known` are pairs that are being looked at."""
     if isinstance(one, Int) and isinstance(other, Int):
         return one.size == other.size and one.truth == other.truth
     if isinstance(one, Pointer) and isinstance(other, Pointer):
-        return agree(one.to, other.to)
+        return agree(one.to, other.to, known)
     if isinstance(one, Array) and isinstance(other, Array):
-        return agree(one.of, other.of) and (one.count == other.count or None in (one.count, other.count))
+        return agree(one.of, other.of, known) and (one.count == other.count or None in (one.count, other.count))
     if isinstance(one, Function) and isinstance(other, Function):
-        if not agree(one.result, other.result):
+        if not agree(one.result, other.result, known):
             return False
         if one.parameters is None or other.parameters is None:
             return True
-        return len(one.parameters) == len(other.parameters) and all(map(agree, one.parameters, other.parameters))
+        pairs = zip(one.parameters, other.parameters)
+        return len(one.parameters) == len(other.parameters) and all(agree(a, b, known) for a, b in pairs)
+    if isinstance(one, Record) and isinstance(other, Record):
+        return one is other or _alike(one, other, known)
     return one == other or isinstance(one, Void) and isinstance(other, Void)
+
+
+def _alike(one: Record, other: Record, known: tuple[tuple[Type, Type], ...]) -> bool:
+    """Whether structs of two files are one."""
+    if any(a is one and b is other for a, b in known) or not (one.laid and other.laid):
+        return one.word == other.word and one.tag == other.tag
+    if (one.word, one.tag, one.size, len(one.fields)) != (other.word, other.tag, other.size, len(other.fields)):
+        return False
+    more = (*known, (one, other))
+    return all(a[:2] == b[:2] and agree(a.type, b.type, more) for a, b in zip(one.fields, other.fields))

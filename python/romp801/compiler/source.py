@@ -4,7 +4,7 @@ from __future__ import annotations
 import os
 import re
 import subprocess
-from typing import Any, Sequence
+from typing import Any, Optional, Sequence
 
 from romp801 import files
 from romp801.compiler.faults import Place, Refused
@@ -12,7 +12,11 @@ from romp801.errors import FAILED, Failure
 
 HERE = os.path.dirname(os.path.realpath(__file__))
 HEADERS = tuple(os.path.join(HERE, it) for it in ("include", "library"))
-DEFINED = ("-D__romp801__=1", "-U__GNUC__", "-D__CHAR_UNSIGNED__=1", "-D__STDC_VERSION__=201112L")
+DEFINED = ("-D__romp801__=1", "-U__GNUC__", "-D__CHAR_UNSIGNED__=1")
+LIBRARY = frozenset(
+    "memchr memcmp memcpy memmove memset strcat strchr strcmp strcpy strlen strncmp strncpy strrchr strstr".split()
+)
+"""Functions that a program is given where it declares them and has none of its own."""
 SPOT = re.compile(r"(?P<file>.*?):(?P<line>\d+):(?P<column>\d+): (?:before: )?(?P<why>.*)", re.S)
 
 
@@ -30,8 +34,13 @@ def preprocessed(path: str, options: Sequence[str]) -> str:
     return done.stdout.decode("latin-1")
 
 
-def tree_of(path: str, options: Sequence[str]) -> Any:
-    """The tree of a file."""
+def library() -> str:
+    """The file of the functions of string.h."""
+    return os.path.join(HERE, "library", "string.c")
+
+
+def tree_of(path: str, options: Sequence[str], kept: Optional[set[str]] = None) -> Any:
+    """The tree of a file; with `kept` only these of its functions."""
     try:
         from pycparser import c_parser  # type: ignore[import]
     except ImportError as error:
@@ -41,7 +50,10 @@ def tree_of(path: str, options: Sequence[str]) -> Any:
     text = preprocessed(path, options)
     errors: tuple[type[Exception], ...] = (getattr(c_parser, "ParseError", SyntaxError), AssertionError)
     try:
-        return c_parser.CParser().parse(text, path)
+        tree = c_parser.CParser().parse(text, path)
+        if kept is not None:
+            tree.ext = [it for it in tree.ext if type(it).__name__ != "FuncDef" or it.decl.name in kept]
+        return tree
     except errors as error:
         found = SPOT.match(str(error))
         if found is None:

@@ -60,9 +60,9 @@ class Shared:
         """Lays a record, or finds it where another file has laid it."""
         was = self.records.get(name)
         if was is not None:
-            if was.segment != window.segment or not same(was.type, its):
+            if was.segment != window.segment or was.type.size != its.size or not same(was.type, its):
                 raise refused(node, f"{name} is another record already")
-            return was
+            return was._replace(type=its)
         at = kinds.up(self.ends.get(window.segment, 0), its.align)
         if at + its.size > 1 << 19:
             raise refused(node, f"{name} ends behind 524,288 bytes, which no segment has")
@@ -165,6 +165,8 @@ class Unit(Outer):
             return
         if node.name in self.shared.records:
             known = self.shared.records[node.name]
+            if not same(known.type, its):
+                raise refused(node, f"{node.name} is another record already")
             self.names.put(node, node.name, Meaning("record", known.type, known.address))
             return
         self.names.put(node, node.name, self._thing(node, its, False, Data))
@@ -181,7 +183,7 @@ class Unit(Outer):
             self.own[node.name] = found
         if type(found) is not kind or not same(found.type, its):
             raise refused(node, f"{node.name} is declared as {found.type}, and here as {its}")
-        if isinstance(its, Function) and its.parameters is not None or isinstance(its, Array) and its.count is not None:
+        if not (isinstance(its, Function) and its.parameters is None or isinstance(its, Array) and its.count is None):
             found.type = its
         return found
 
