@@ -17,6 +17,8 @@ GCC = ("gcc", "-m32", "-O0", "-w", "-fwrapv", "-funsigned-char", "-fno-strict-al
        "-fno-stack-protector", "-Wl,--allow-multiple-definition", "-fno-pic", "-no-pie", "-std=gnu11", f"-I{TOP}/python/romp801/compiler/include", f"-I{HERE}",
        f"-I{TOP}/python/romp801/compiler/library")
 LIBRARY = TOP / "python/romp801/compiler/library/string.c"
+OPTIONS = (f"-I{HERE}", "-DRECORD=extern")
+"""What the compiler is told of the sources."""
 ROUNDS, ROWS = 20, 1000000
 """Turns that a program is given, and their rows."""
 
@@ -33,7 +35,7 @@ class Outcome(NamedTuple):
 def here(folder: str, paths: Sequence[str], entry: str, values: Sequence[int], seconds: float = 5.0) -> Optional[bytes]:
     """What the program prints here; None where it doesn't end in time. It ends with 8 where it gives up."""
     given = ",".join(f"{it}u" for it in values)
-    built = subprocess.run([*GCC, "-o", f"{folder}/host", str(HERE / "host.c"), *paths[1:], str(LIBRARY), f"-DHOST_ENTRY={entry}", f"-DHOST_VALUES={given}",
+    built = subprocess.run([*GCC, "-DRECORD=", "-o", f"{folder}/host", str(HERE / "host.c"), *paths[1:], str(LIBRARY), f"-DHOST_ENTRY={entry}", f"-DHOST_VALUES={given}",
                             f'-DHOST_SOURCE="{os.path.abspath(paths[0])}"'],
                            capture_output=True, check=False)
     if built.returncode:
@@ -63,7 +65,7 @@ def there(program: str, text: str, entry: str, values: Sequence[int]) -> "tuple[
 
 def compiled(paths: Sequence[str], entry: str) -> "tuple[str, int]":
     """The program's text and its bytes; raises Failure where it is refused."""
-    found = compiler.read(paths, (f"-I{HERE}",))
+    found = compiler.read(paths, OPTIONS)
     done = found.program(entry)
     return "".join(f"{it}\n" for it in done.lines), done.size
 
@@ -76,6 +78,8 @@ def look(program: str, folder: str, paths: Sequence[str], entry: str, values: Se
         return Outcome("large", str(failure))
     except Failure as failure:
         return Outcome("refused", str(failure))
+    except Exception as error:  # (a mistake of the compiler's is one more that differs)
+        return Outcome("differed", f"the compiler ended with {type(error).__name__}: {error}")
     try:
         want = here(folder, paths, entry, values)
     except ValueError as error:
