@@ -13,9 +13,11 @@ from romp801.compiler.unit import Known, Shared, Unit
 HOST = """/* Made by tools/compile --host: runs programs in C on another machine, on lines of standard input as
    tools/work reads them. Compile it together with their files. */
 #include <setjmp.h>
-#include <stdio.h>
 #include <stdlib.h>
 #include <string.h>
+
+/* (without stdio.h, since a function may be called remove) */
+int printf(const char *, ...), sscanf(const char *, const char *, ...), puts(const char *), getchar(void);
 
 @RECORDS@
 @FUNCTIONS@
@@ -31,19 +33,28 @@ void print_byte(unsigned byte) { if (count < sizeof out) out[count++] = (unsigne
 static void run(const char *name, const unsigned *v)
 {
     (void)v;
-@CALLS@    fprintf(stderr, "there is no function %s\\n", name);
+@CALLS@    printf("there is no function %s\\n", name);
     exit(2);
+}
+
+static int get(char *line, int size)
+{
+    int at = 0, byte;
+    while ((byte = getchar()) >= 0 && byte != '\\n' && at < size - 1)
+        line[at++] = (char)byte;
+    line[at] = 0;
+    return byte >= 0 || at;
 }
 
 int main(void)
 {
     static char line[1000];
     unsigned number = 0, commits = 0, at;
-    while (fgets(line, sizeof line, stdin)) {
+    while (get(line, sizeof line)) {
         char name[100];
         unsigned v[4] = {0, 0, 0, 0};
         number++;
-        line[strcspn(line, ";\\n")] = 0;
+        line[strcspn(line, ";")] = 0;
         if (sscanf(line, "%99s %u %u %u %u", name, v, v + 1, v + 2, v + 3) < 1)
             continue;
         for (at = 0; records[at].size; at++) {
