@@ -10,7 +10,7 @@ from typing import NamedTuple, Sequence
 
 from romp801.compiler.code import Code
 from romp801.compiler.unit import Shared, Unit
-from romp801.compiler.whole import Finished, Whole
+from romp801.compiler.whole import Finished, Lines, Whole
 
 
 class Source(NamedTuple):
@@ -18,10 +18,11 @@ class Source(NamedTuple):
 
     units: list[Unit]
     shared: Shared
+    lines: Lines
 
     def program(self, function: str) -> Finished:
         """The program that begins at a function; raises Refused."""
-        return Whole(self.units, self.shared, function).finish()
+        return Whole(self.units, self.shared, function, self.lines).finish()
 
 
 def read(paths: Sequence[str], options: Sequence[str] = ()) -> Source:
@@ -38,7 +39,7 @@ def read(paths: Sequence[str], options: Sequence[str] = ()) -> Source:
         unit = Unit(shared, len(units))
         unit.read(source.tree_of(source.library(), (), kept=set(source.LIBRARY) - _defined(shared)))
         units.append(unit)
-    return Source(units, shared)
+    return Source(units, shared, Lines())
 
 
 def _defined(shared: Shared) -> set[str]:

@@ -15,10 +15,11 @@ class Place(NamedTuple):
 
     @classmethod
     def of(cls, node: Any) -> Optional[Place]:
-        """Where a node of the parser's tree stands, where it tells."""
+        """Where a node of the parser's tree stands, or else the first below it that tells."""
         coord = getattr(node, "coord", None)
         if coord is None or coord.file is None:
-            return None
+            inner = (cls.of(it) for _, it in node.children()) if hasattr(node, "children") else iter(())
+            return next((it for it in inner if it is not None), None)
         return cls(coord.file, coord.line or 0, coord.column or 0)
 
     def __str__(self) -> str:

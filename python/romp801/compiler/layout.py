@@ -55,7 +55,7 @@ class Layout:
         depth = self.whole.depth()
         if self.at + (depth if depth is not None else LEAST_STACK) > TOP:
             need = f"the {depth}" if depth is not None else f"the least, {LEAST_STACK},"
-            raise TooLarge(None, f"{main.name} has {self.at} bytes, and with {need} of its stack it passes {TOP}")
+            raise TooLarge(self.whole.bodies[main].place, f"{main.name} has {self.at} bytes, and with {need} of its stack it passes {TOP}")
         lines = parts[0]
         for it in parts[1:]:
             lines += [".part", *it]
@@ -113,21 +113,22 @@ class Layout:
                 self.labels[it] = self.names.numbered("L")
         found: list[str] = []
         waiting: list[str] = []
+        last: Optional[Place] = None
         for it in lines:
             if isinstance(it, Block):
                 if it in targets:
                     waiting.append(f"{self.labels[it]}:")
                 continue
             self.at += it.size
+            if it.place is not None and (last is None or it.place[:2] != last[:2]):
+                last = it.place
+                found.append(self.whole.sources.line(last))
             found += waiting
             waiting = []
             operands = list(it.operands)
             if it.target is not None:
                 operands.append(self.labels[it.target])
-            line = f"        {it.op:<8}{', '.join(operands)}".rstrip()
-            if it.place is not None and self.whole.places:
-                line = f"{line:<48}; {it.place.file}:{it.place.line}"
-            found.append(line)
+            found.append(f"        {it.op:<8}{', '.join(operands)}".rstrip())
         return found + waiting
 
     def _library(self) -> list[str]:

@@ -32,8 +32,8 @@ INTEGERS: dict[str, Int] = {
     "unsigned long": Int(4, False, "unsigned long"),
 }
 NOT_HAD = {
-    "float": "floating point",
-    "double": "floating point",
+    "float": "numbers with a fraction",
+    "double": "numbers with a fraction",
     "_Complex": "complex numbers",
     "__int128": "128 bits",
 }
@@ -49,6 +49,7 @@ class Names:
         self.tags: list[dict[str, Record | Int]] = [{}]
         self.value_of: Callable[[Any], int]
         self.volatile = False
+        self.known: dict[int, tuple[Any, Type]] = {}
 
     def enter(self) -> None:
         """A block begins."""
@@ -78,8 +79,7 @@ class Names:
         """The type that a declaration tells."""
         kind = type(node).__name__
         self.volatile = self.volatile or "volatile" in (getattr(node, "quals", None) or [])
-        if getattr(node, "align", None):
-            raise refused(node, "an alignment of its own isn't compiled")
+        aligned(node)
         reader = getattr(self, f"_{kind}", None)
         if reader is None:
             raise refused(node, f"{kind} isn't compiled")
@@ -166,6 +166,8 @@ class Names:
         return None
 
     def _Struct(self, node: Any) -> Type:
+        if id(node) in self.known:
+            return self.known[id(node)][1]
         word = "union" if type(node).__name__ == "Union" else "struct"
         it = self._tag(node, node.decls is not None) if node.name else None
         if it is None:
@@ -178,6 +180,7 @@ class Names:
             if it.laid:
                 raise refused(node, f"{it} is defined already")
             it.lay(self._members(node))
+            self.known[id(node)] = node, it
         return it
 
     _Union = _Struct
@@ -188,6 +191,7 @@ class Names:
         for it in node.decls:
             if type(it).__name__ in ("Pragma", "StaticAssert"):
                 raise refused(it, "this isn't compiled between members")
+            aligned(it)
             if getattr(it, "bitsize", None) is not None:
                 raise refused(it, "bit fields aren't compiled")
             its = self.complete(it, self.type_of(it.type), "a member")
@@ -206,6 +210,8 @@ class Names:
             if not isinstance(it, Int):
                 raise refused(node, f"enum {node.name} isn't declared")
             return it
+        if id(node) in self.known:
+            return self.known[id(node)][1]
         at, least = 0, 0
         for one in node.values.enumerators:
             if one.value is not None:
@@ -218,7 +224,14 @@ class Names:
         its = Int(4, least < 0, f"enum {node.name or '{..}'}")
         if node.name:
             self.tags[-1][node.name] = its
+        self.known[id(node)] = node, its
         return its
+
+
+def aligned(node: Any) -> None:
+    """Refuses an alignment that a declaration tells."""
+    if getattr(node, "align", None):
+        raise refused(node, "an alignment of its own isn't compiled")
 
 
 def decayed(its: Type) -> Type:

@@ -84,6 +84,10 @@ int main(void)
 """
 
 
+UNUSED = "unused"
+"""With what the name of a member begins that is left out of a description."""
+
+
 def fields_of(its: Type, name: str, at: int) -> Iterator[tuple[int, str, str, int]]:
     """The fields of a type: where each is, its name, its kind and its bytes."""
     if isinstance(its, Record) and its.word == "struct":
@@ -115,6 +119,8 @@ def records(shared: Shared) -> Iterator[str]:
         yield f"records {name} segment {it.segment} from {it.offset} size {of.size} count {count}"
         at = 0
         for there, field, kind, size in fields_of(of, "", 0):
+            if field.startswith(UNUSED):
+                continue
             if there > at:
                 yield f"skip {there - at}"
             yield f"{field} {kind}"

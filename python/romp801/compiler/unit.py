@@ -6,10 +6,10 @@ from typing import Any, NamedTuple, Optional
 from romp801.compiler import kinds
 from romp801.compiler.code import Code, Data, Thing
 from romp801.compiler.expressions import SERVICES, Expressions
-from romp801.compiler.faults import refused
+from romp801.compiler.faults import Place, refused
 from romp801.compiler.initial import Initial
 from romp801.compiler.kinds import Array, Function, Int, Type
-from romp801.compiler.names import Meaning, Names
+from romp801.compiler.names import Meaning, Names, aligned
 from romp801.compiler.statements import Outer, Statements, hold
 from romp801.compiler.tree import Expr, Made, Variable
 
@@ -125,6 +125,7 @@ class Unit(Outer):
     def declare(self, node: Any) -> bool:
         """Takes a declaration of a type, of a function, of a record or of a variable elsewhere; says whether it was
         one."""
+        aligned(node)
         storage = node.storage or []
         if "_Thread_local" in storage:
             raise refused(node, "a thread's own variable isn't compiled")
@@ -178,6 +179,7 @@ class Unit(Outer):
             found = None if static else self.shared.things.get(node.name)
             if found is None:
                 found = kind(node.name, its, not static)
+                found.place = Place.of(node)
                 if not static:
                     self.shared.things[node.name] = found
             self.own[node.name] = found

@@ -1,12 +1,14 @@
 """A program of files of C: what of them it needs, in the assembler's words."""
 from __future__ import annotations
 
+import os
 from typing import Iterator, NamedTuple, Optional
 
+from romp801 import files
 from romp801.compiler import routines
 from romp801.compiler.clone import clone
 from romp801.compiler.code import ROUTINES, Body, Code, Data, Reg, Step, Symbol, Thing
-from romp801.compiler.faults import Refused
+from romp801.compiler.faults import Place, Refused
 from romp801.compiler.improve import improve
 from romp801.compiler.inline import inline
 from romp801.compiler.kinds import Function, Int, Record
@@ -14,6 +16,7 @@ from romp801.compiler.registers import CHANGED, LINK, SCRATCH, Coloring, allocat
 from romp801.compiler.rows import Emitter, Line
 from romp801.compiler.settle import Settler
 from romp801.compiler.unit import Shared, Unit
+from romp801.errors import Failure
 
 class Finished(NamedTuple):
     """A program: its lines, its bytes, and those of its stack, where they are told."""
@@ -23,11 +26,31 @@ class Finished(NamedTuple):
     stack: Optional[int]
 
 
+class Lines:
+    """The lines of C, as comments of the assembler."""
+
+    def __init__(self) -> None:
+        self.files: dict[str, list[str]] = {}
+
+    def line(self, place: Place) -> str:
+        """A line: its file, its number and its text."""
+        if place.file not in self.files:
+            try:
+                text = files.read_bytes(place.file).decode("latin-1")
+            except Failure:
+                text = ""
+            self.files[place.file] = text.split("\n")
+        lines = self.files[place.file]
+        text = lines[place.line - 1].strip() if 0 < place.line <= len(lines) else ""
+        name = os.path.basename(place.file)
+        return f"; {name}:{place.line}: {text}".rstrip().rstrip(":")
+
+
 class Whole:
     """A program that begins at a function."""
 
-    def __init__(self, units: list[Unit], shared: Shared, entry: str, places: bool = True) -> None:
-        self.units, self.shared, self.places = units, shared, places
+    def __init__(self, units: list[Unit], shared: Shared, entry: str, sources: Lines) -> None:
+        self.units, self.shared, self.sources = units, shared, sources
         self.plain = not any(it.names.volatile for it in units)
         self.entry = self._entry(entry)
         self.bodies: dict[Code, Body] = {}
@@ -105,7 +128,7 @@ class Whole:
         found = self.bodies.get(code)
         if found is None:
             if code.body is None:
-                raise Refused(None, f"{code.name} is called, and no file defines it")
+                raise Refused(code.place, f"{code.name} is called, and no file defines it")
             found = self.bodies[code] = clone(code.body)
         return found
 
@@ -126,8 +149,8 @@ class Whole:
                 waiting += list(dict.fromkeys(_things(self.body(it))))[::-1]
             elif isinstance(it, Data):
                 if it.unit is None:
-                    raise Refused(None, f"{it.name} is extern, and no file defines it; a record stands behind "
-                                  "#pragma segment NUMBER r|rw")
+                    why = "is extern, and no file defines it; a record stands behind #pragma segment NUMBER r|rw"
+                    raise Refused(it.place, f"{it.name} {why}")
                 waiting += [thing for _, thing, _ in it.links][::-1]
         return list(found)
 
