@@ -6,11 +6,16 @@ inline.py fewer; settle.py and registers.py give these registers, rows.py rows; 
 """
 from __future__ import annotations
 
+import sys
 from typing import NamedTuple, Sequence
 
 from romp801.compiler.code import Code
+from romp801.compiler.faults import Place, Refused
 from romp801.compiler.unit import Shared, Unit
 from romp801.compiler.whole import Finished, Lines, Whole
+
+DEEPEST = 6000
+"""How deeply calls of the compiler may stand in each other, as what is nested asks."""
 
 
 class Source(NamedTuple):
@@ -22,18 +27,25 @@ class Source(NamedTuple):
 
     def program(self, function: str) -> Finished:
         """The program that begins at a function; raises Refused."""
-        return Whole(self.units, self.shared, function, self.lines).finish()
+        try:
+            return Whole(self.units, self.shared, function, self.lines).finish()
+        except RecursionError as error:
+            raise Refused(None, f"{function} is nested too deeply") from error
 
 
 def read(paths: Sequence[str], options: Sequence[str] = ()) -> Source:
     """Reads files, with options for the preprocessor; raises Refused at the first place that isn't compiled."""
     from romp801.compiler import source
 
+    sys.setrecursionlimit(max(sys.getrecursionlimit(), DEEPEST))
     shared = Shared()
     units: list[Unit] = []
     for path in paths:
         unit = Unit(shared, len(units))
-        unit.read(source.tree_of(path, options))
+        try:
+            unit.read(source.tree_of(path, options))
+        except RecursionError as error:
+            raise Refused(Place(path, 0), "something is nested too deeply") from error
         units.append(unit)
     if any(it.unit is None and isinstance(it, Code) and it.name in source.LIBRARY for it in shared.things.values()):
         unit = Unit(shared, len(units))

@@ -26,6 +26,10 @@ class Finished(NamedTuple):
     stack: Optional[int]
 
 
+LONGEST = 100
+"""Characters of a line of C that are shown."""
+
+
 class Lines:
     """The lines of C, as comments of the assembler."""
 
@@ -43,7 +47,7 @@ class Lines:
         lines = self.files[place.file]
         text = lines[place.line - 1].strip() if 0 < place.line <= len(lines) else ""
         name = os.path.basename(place.file)
-        return f"; {name}:{place.line}: {text}".rstrip().rstrip(":")
+        return f"; {name}:{place.line}: {text[:LONGEST]}".rstrip().rstrip(":")
 
 
 class Whole:
