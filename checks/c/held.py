@@ -2,6 +2,8 @@
 as 32 bits, here; both print bytes, and both have to print the same."""
 import os
 import pathlib
+import resource
+import signal
 import subprocess
 import sys
 from typing import List, NamedTuple, Optional, Sequence
@@ -19,6 +21,8 @@ GCC = ("gcc", "-m32", "-O0", "-w", "-fwrapv", "-funsigned-char", "-fno-strict-al
 LIBRARY = TOP / "python/romp801/compiler/library/string.c"
 OPTIONS = (f"-I{HERE}", "-DRECORD=extern")
 """What the compiler is told of the sources."""
+CPU = 2
+"""Seconds of a processor in which a program has to end here."""
 ROUNDS, ROWS = 20, 1000000
 """Turns that a program is given, and their rows."""
 
@@ -32,7 +36,7 @@ class Outcome(NamedTuple):
     size: int = 0
 
 
-def here(folder: str, paths: Sequence[str], entry: str, values: Sequence[int], seconds: float = 5.0) -> Optional[bytes]:
+def here(folder: str, paths: Sequence[str], entry: str, values: Sequence[int], seconds: float = 120.0) -> Optional[bytes]:
     """What the program prints here; None where it doesn't end in time. It ends with 8 where it gives up."""
     given = ",".join(f"{it}u" for it in values)
     built = subprocess.run([*GCC, "-DRECORD=", "-o", f"{folder}/host", str(HERE / "host.c"), *paths[1:], str(LIBRARY), f"-DHOST_ENTRY={entry}", f"-DHOST_VALUES={given}",
@@ -41,8 +45,12 @@ def here(folder: str, paths: Sequence[str], entry: str, values: Sequence[int], s
     if built.returncode:
         raise ValueError(built.stderr.decode(errors="replace")[:300])
     try:
-        done = subprocess.run([f"{folder}/host"], capture_output=True, timeout=seconds, check=False)
+        # (seconds of a processor, however busy the machine is)
+        limit = lambda: resource.setrlimit(resource.RLIMIT_CPU, (CPU, CPU))  # noqa: E731
+        done = subprocess.run([f"{folder}/host"], capture_output=True, timeout=seconds, check=False, preexec_fn=limit)
     except subprocess.TimeoutExpired:
+        return None
+    if done.returncode in (-signal.SIGXCPU, -signal.SIGKILL):
         return None
     return done.stdout if done.returncode == 0 else b"gave up" if done.returncode == 8 else b"signal"
 
