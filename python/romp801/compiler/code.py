@@ -140,7 +140,7 @@ class Step:
         if isinstance(self.b, Reg) and self.b is not STACK:
             found.append(self.b)
         if self.args:
-            found += [it for it in self.args if isinstance(it, Reg)]
+            found += [it for it in self.args if isinstance(it, Reg) and it is not STACK]
         return found
 
     def copy(self) -> Step:
@@ -173,7 +173,7 @@ class End:
 
     def uses(self) -> list[Reg]:
         """The registers that it takes."""
-        return [it for it in (self.a, self.b) if isinstance(it, Reg)]
+        return [it for it in (self.a, self.b) if isinstance(it, Reg) and it is not STACK]
 
     def after(self) -> list[Block]:
         """The blocks that may be next."""

@@ -86,7 +86,7 @@ class Graph:
                 gives = 1 << at
                 self.cost[at] += weight
                 beside = bits
-                if it.op == "move" and isinstance(it.a, Reg):
+                if it.op == "move" and isinstance(it.a, Reg) and it.a in self.index:
                     beside &= ~(1 << self.index[it.a])
                     self.moves.append((weight, at, self.index[it.a]))
                 self.beside[at] |= beside
