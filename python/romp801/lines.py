@@ -32,7 +32,10 @@ class Line(NamedTuple):
     @property
     def told(self) -> str:
         """What it was written as: its line of C, or itself."""
-        return self.source or " ".join(job.words_of(self.text))
+        if self.source:
+            return self.source
+        words = job.words_of(self.text)
+        return " ".join(words[1:] if words and words[0].endswith(":") else words)
 
 
 def lines_of(text: bytes) -> Iterator[Line]:
