@@ -6,7 +6,7 @@ import resource
 import signal
 import subprocess
 import sys
-from typing import List, NamedTuple, Optional, Sequence
+from typing import List, NamedTuple, Optional, Sequence, Tuple
 
 HERE = pathlib.Path(__file__).resolve().parent
 TOP = HERE.parent.parent
@@ -15,11 +15,11 @@ sys.path.insert(0, str(TOP / "python"))
 from romp801 import Failure, compiler  # noqa: E402
 from romp801.compiler.layout import TooLarge  # noqa: E402
 
-GCC = ("gcc", "-m32", "-O0", "-w", "-fwrapv", "-funsigned-char", "-fno-strict-aliasing", "-ffreestanding", "-nostdlib", "-static",
+GCC: Tuple[str, ...] = ("gcc", "-m32", "-O0", "-w", "-fwrapv", "-funsigned-char", "-fno-strict-aliasing", "-ffreestanding", "-nostdlib", "-static",
        "-fno-stack-protector", "-Wl,--allow-multiple-definition", "-fno-pic", "-no-pie", "-std=gnu11", f"-I{TOP}/python/romp801/compiler/include", f"-I{HERE}",
        f"-I{TOP}/python/romp801/compiler/library")
 LIBRARY = TOP / "python/romp801/compiler/library/string.c"
-OPTIONS = (f"-I{HERE}", "-DRECORD=extern")
+OPTIONS: Tuple[str, ...] = (f"-I{HERE}", "-DRECORD=extern")
 """What the compiler is told of the sources."""
 CPU = 2
 """Seconds of a processor in which a program has to end here."""

@@ -51,7 +51,10 @@ class Maker:
     def place(self, names: List[str]) -> str:
         """A place of a record or a variable."""
         r = self.r
-        i = lambda: f"(unsigned)({r.choice(names)})"
+
+        def i() -> str:
+            return f"(unsigned)({r.choice(names)})"
+
         return r.choice([
             *names, *names, f"g[{r.randrange(8)}]", f"g[{i()} & 7]", f"h[{i()} % 8u].{r.choice('abcd')}", f"own[{i()} & 3]",
             f"text[{i()} & 15]", f"grid[{i()} % 3u][{i()} % 5u]", "one.x", f"two.t[{i()} % 3u]", "one.r.b", "start.x", "two.r.c",
@@ -70,7 +73,10 @@ class Maker:
         r = self.r
         if depth == 0 or r.random() < .12:
             return self.leaf(names)
-        e = lambda: self.expr(depth - 1, names)
+
+        def e() -> str:
+            return self.expr(depth - 1, names)
+
         k = r.randrange(17)
         if k < 4:
             return f"({e()} {r.choice(['+', '-', '*', '&', '|', '^'])} {e()})"
@@ -109,7 +115,10 @@ class Maker:
                 f"{to} = {self.expr(3, names)};", f"{to} {r.choice(['+', '-', '^', '|', '&', '*'])}= {self.expr(2, names)};",
                 f"{to} {r.choice(['<<', '>>'])}= ({self.expr(1, names)}) & 31;", f"{r.choice(['++', '--'])}{to};", f"{to}{r.choice(['++', '--'])};",
                 f"{to} {r.choice('/%')}= ({self.expr(1, names)}) & 255 | 1;"])
-        s = lambda: self.stmt(depth - 1, names)
+
+        def s() -> str:
+            return self.stmt(depth - 1, names)
+
         if k == 5:
             return f"if ({self.expr(2, names)}) {{ {s()} }} else {{ {s()} {s()} }}"
         if k == 6:
@@ -155,8 +164,13 @@ class Maker:
 
     def functions(self) -> str:
         """Functions that the program calls; none changes a record, but tick and bump."""
-        t = lambda: self.r.choice(TYPES)
-        e = lambda depth, *names: self.expr_of(depth, list(names))
+
+        def t() -> str:
+            return self.r.choice(TYPES)
+
+        def e(depth: int, *names: str) -> str:
+            return self.expr_of(depth, list(names))
+
         return f"""
 static {t()} add3({t()} x, {t()} y, {t()} z) {{ {t()} w = {e(2, 'x', 'y', 'z')}; if (w > x) return {e(1, 'w', 'y')}; return {e(2, 'x', 'y', 'z', 'w')}; }}
 static unsigned many({t()} a, {t()} b, {t()} c, {t()} d, {t()} x, {t()} y, {t()} z) {{ return {e(2, 'a', 'b', 'c', 'd')} + x * 3 - y + (z ^ {e(1, 'x', 'y', 'z')}); }}
