@@ -53,6 +53,10 @@ _romp801_script() {
         options='--help --copy --wait --program'
         values='--wait'
         ;;
+    compile | romp801-compile)
+        options='--help --job --frames --include --define --records --host'
+        values='--frames --define'
+        ;;
     dump | romp801-dump)
         options='--help --wait'
         values='--wait'
@@ -115,6 +119,9 @@ complete -o filenames -F _romp801_script romp801-addresses \
     romp801-catch-up \
     tools/catch-up \
     ./tools/catch-up \
+    romp801-compile \
+    tools/compile \
+    ./tools/compile \
     romp801-dump \
     tools/dump \
     ./tools/dump \

@@ -9,9 +9,9 @@ import dataclasses
 import html
 import json
 import pathlib
-from typing import Any, Iterable, Mapping, Optional
+from typing import Any, Iterable, Mapping, NamedTuple, Optional
 
-from romp801 import report as reports
+from romp801 import lines, report as reports
 from romp801.forms import Line
 from romp801.format import Store
 from romp801.prints import Touch
@@ -31,6 +31,13 @@ CHECKS = (
     "a store through a window to read",
     "it gave up",
 )
+
+
+class Places(NamedTuple):
+    """Where the activations of a run stood, and what the rows there were written as."""
+
+    rows: lines.Places
+    stands: lines.Stands
 
 
 @dataclasses.dataclass
@@ -67,13 +74,14 @@ class Step:
 class Steps:
     """The steps of a report; raises NoReport at a line that can't be there."""
 
-    def __init__(self, lines: Iterable[Line]) -> None:
+    def __init__(self, found: Iterable[Line], places: Optional[Places] = None) -> None:
         self.steps: list[Step] = []
         self.activations: dict[int, Activation] = {}
         self.lanes: list[Optional[int]] = []
         self.active: dict[int, tuple[int, tuple[int, ...]]] = {}
         self.number = 0
-        for place, line in enumerate(lines, 1):
+        self.places = places
+        for place, line in enumerate(found, 1):
             try:
                 self._take(place, line)
             except KeyError as error:
@@ -123,7 +131,16 @@ class Steps:
             step.kind = "closed"
         elif isinstance(line, reports.Ended):
             self._end(line)
-        step.said.append(self._words(line))
+        step.said.append(self._words(line) + self._where(place, line))
+
+    def _where(self, place: int, line: Line) -> str:
+        """At which row one waits or was checked, as that was written."""
+        if self.places is None or not isinstance(line, (reports.Wait, reports.Check)):
+            return ""
+        waits = self.places.stands.waits
+        address = line.address if isinstance(line, reports.Check) else waits.get(place)
+        row = self.places.rows.told(self.activations[line.activation].name, address) if address is not None else ""
+        return f" It is at {row}" if row else ""
 
     def _begin(self, number: int, name: str) -> None:
         """An activation begins in the first lane that is free."""
@@ -229,13 +246,20 @@ def page(
     traces: Mapping[int, list[Touch]],
     store: Optional[Store] = None,
     behind: Optional[Mapping[int, Mapping[int, bytes]]] = None,
+    places: Optional[Places] = None,
 ) -> str:
     """The page of a report. `traces` has what some of its activations touched, `store` is a copy of the store from
-    before the run, which says where lines lie, and `behind` has the lines that each commit changed, by the number
-    behind it (romp801.held); raises NoReport where the report can't be."""
-    steps = Steps(found.lines)
+    before the run, which says where lines lie, `behind` has the lines that each commit changed, by the number behind
+    it (romp801.held), and `places` tells where activations stood; raises NoReport where the report can't be."""
+    steps = Steps(found.lines, places)
     lines = lines_of(store) if store is not None else {}
     names = list(lines)
+
+    def written(number: int, step: int) -> list[str]:
+        path = places.stands.steps.get(number, []) if places is not None else []
+        if places is None or step > len(path):
+            return []
+        return [places.rows.told(found.names[number], path[step - 1])]
     data: dict[str, Any] = {
         "title": title,
         "steps": [dataclasses.asdict(it) for it in steps.steps],
@@ -243,7 +267,10 @@ def page(
         "lanes": len(steps.lanes),
         "whole": found.number is not None,
         "traces": {
-            number: [[it.step, it.how, names[it.index] if it.index < len(names) else str(it.index)] for it in touches]
+            number: [
+                [it.step, it.how, names[it.index] if it.index < len(names) else str(it.index), *written(number, it.step)]
+                for it in touches
+            ]
             for number, touches in traces.items()
         },
         "held": _held(lines, behind) if behind else None,

@@ -18,9 +18,9 @@ use file_runs::run_words;
 use outside::Failed;
 use real_files::{RawScreen, ReadSource, StdOpener, StdOut, may_spoil};
 use std::alloc::{AllocError, Global};
-use std::process::ExitCode;
 use std::env;
 use std::io::{ErrorKind, Read};
+use std::process::ExitCode;
 
 fn main(rt: HostRuntime) -> ExitCode {
     let status = match words_of(&rt) {

@@ -1,0 +1,1 @@
+/* what the header of the trees includes */
