@@ -14,8 +14,6 @@ under that name, also over kills.
 from __future__ import annotations
 
 import contextlib
-import json
-import select
 import socket
 import stat
 import time
@@ -38,9 +36,11 @@ from romp801.request import (
     Word,
     is_conflict,
     is_final,
+    message_of,
     run_job,
     words_at,
 )
+from romp801.wire import Wire
 
 ATTEMPTS = 1000
 BLOCK = 256
@@ -414,8 +414,7 @@ class ServedStore(Store):
 
     def __init__(self, path: str, seconds: float = 60.0) -> None:
         self.path, self.seconds = path, seconds
-        self.link: Optional[socket.socket] = None
-        self.left = b""
+        self.wire: Optional[Wire] = None
         self.session = uuid.uuid4().hex
         self.asked = 0
         self.segments: dict[int, int] = {}
@@ -448,8 +447,7 @@ class ServedStore(Store):
             name = f"{self.session}.{self.asked}"
         messages: list[dict[str, Any]] = []
         for place, it in enumerate(requests):
-            what = {"run": [it.name, *it.values]} if isinstance(it, Run) else it._asdict()
-            messages.append({"name": f"{name}.{place}", **what})
+            messages.append({"name": f"{name}.{place}", **message_of(it)})
         return [end for end in (_end(it["end"]) for it in self._exchange(messages)) if end is not None]
 
     def _one(self, message: dict[str, Any]) -> dict[str, Any]:
@@ -480,41 +478,24 @@ class ServedStore(Store):
         return [answers[place] for place in range(len(messages))]
 
     def _send(self, messages: dict[int, dict[str, Any]], answers: dict[int, dict[str, Any]]) -> None:
-        """Sends messages and takes their answers. It reads while it sends: both may be long."""
-        if self.link is None:
-            self.left = b""
-            self.link = socket.socket(socket.AF_UNIX, socket.SOCK_STREAM)
-            self.link.connect(self.path)
-            self.link.setblocking(False)
-        out = b"".join(json.dumps({"tag": place, **it}).encode() + b"\n" for place, it in messages.items())
-        waiting = set(messages)
-        while waiting:
-            can_read, can_write, _ = select.select([self.link], [self.link] if out else [], [], self.seconds)
-            if not can_read and not can_write:
-                raise TimeoutError(f"no answer in {self.seconds:g} seconds")
-            if can_write:
-                out = out[self.link.send(out[: 1 << 16]) :]
-            for answer in self._answers() if can_read else ():
-                if answer["tag"] is None:
-                    raise Failure(str(answer.get("error") or answer.get("again")))
-                waiting.discard(answer["tag"])
-                if "again" not in answer:
-                    answers[answer["tag"]] = answer
-
-    def _answers(self) -> Iterator[dict[str, Any]]:
-        """The whole lines that came; raises ConnectionError where the server has gone."""
-        assert self.link is not None
-        data = self.link.recv(1 << 16)
-        if not data:
-            raise ConnectionError("the server has gone")
-        *lines, self.left = (self.left + data).split(b"\n")
-        return map(json.loads, lines)
+        """Sends messages and takes their answers."""
+        if self.wire is None:
+            link = socket.socket(socket.AF_UNIX, socket.SOCK_STREAM)
+            try:
+                link.connect(self.path)
+            except OSError:
+                link.close()
+                raise
+            self.wire = Wire(link, self.seconds)
+        for tag, answer in self.wire.ask(messages):
+            if "again" not in answer:
+                answers[tag] = answer
 
     def close(self) -> None:
         """Ends the connection."""
-        if self.link is not None:
-            self.link.close()
-            self.link = None
+        if self.wire is not None:
+            self.wire.close()
+            self.wire = None
 
 
 def _end(line: Optional[str]) -> Optional[Ended]:

@@ -85,13 +85,13 @@ class Program:
             )
 
     def call(
-        self, *line: str, given: bytes = b"", seconds: Optional[float] = 0.0
+        self, *line: str, given: bytes = b"", seconds: Optional[float] = 0.0, keeps: Iterable[int] = ()
     ) -> subprocess.CompletedProcess[bytes]:
         """Calls the program with these words on these bytes. Where another process has the store it is waited for,
-        `seconds` long."""
+        `seconds` long. `keeps` are open files that the program has too."""
         wait = files.Wait(seconds)
         while True:
-            with self.start(*line, given=given) as child:
+            with self.start(*line, given=given, keeps=keeps) as child:
                 output, errors = child.communicate()
             if (
                 child.returncode != BUSY

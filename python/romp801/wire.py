@@ -1,0 +1,73 @@
+"""A client's connection to whoever answers lines of JSON, each with the `tag` of its question (romp801.listener)."""
+from __future__ import annotations
+
+import json
+import select
+import socket
+import ssl
+from typing import Any, Iterator, Mapping, Optional, Tuple
+
+from romp801.errors import Failure
+
+PART = 1 << 16
+"""Bytes that are sent or taken at once."""
+WAITS = (BlockingIOError, ssl.SSLWantReadError, ssl.SSLWantWriteError)
+
+
+class Wire:
+    """An open connection, plain or by TLS. `seconds` without a byte are a TimeoutError."""
+
+    def __init__(self, link: socket.socket, seconds: float) -> None:
+        self.link, self.seconds = link, seconds
+        self.left = b""
+        link.setblocking(False)
+
+    def ask(self, messages: Mapping[int, Mapping[str, Any]]) -> Iterator[Tuple[int, dict[str, Any]]]:
+        """Sends messages, each under its tag, and hands over their answers as they come. It reads while it sends:
+        both may be long. Raises OSError where the other side has gone."""
+        out = b"".join(json.dumps({"tag": tag, **it}).encode() + b"\n" for tag, it in messages.items())
+        waiting = set(messages)
+        while waiting:
+            sent = self._send(out)
+            out = out[sent:]
+            data = self._take()
+            if not sent and data is None:
+                self._wait(bool(out))
+            for answer in self._lines(data or b""):
+                if answer.get("tag") is None:
+                    raise Failure(str(answer.get("error") or answer.get("again")))
+                if answer["tag"] in waiting:
+                    waiting.discard(answer["tag"])
+                    yield answer["tag"], answer
+
+    def _send(self, out: bytes) -> int:
+        """Sends some bytes; answers how many went."""
+        try:
+            return self.link.send(out[:PART]) if out else 0
+        except WAITS:
+            return 0
+
+    def _take(self) -> Optional[bytes]:
+        """Takes what came, or None where nothing did; raises ConnectionError where the other side has gone."""
+        try:
+            data = self.link.recv(PART)
+        except WAITS:
+            return None
+        if not data:
+            raise ConnectionError("the server has gone")
+        return data
+
+    def _wait(self, sends: bool) -> None:
+        """Waits until something may go or come."""
+        can_read, can_write, _ = select.select([self.link], [self.link] if sends else [], [], self.seconds)
+        if not can_read and not can_write:
+            raise TimeoutError(f"no answer in {self.seconds:g} seconds")
+
+    def _lines(self, data: bytes) -> Iterator[dict[str, Any]]:
+        """The whole lines that there are."""
+        *lines, self.left = (self.left + data).split(b"\n")
+        return map(json.loads, lines)
+
+    def close(self) -> None:
+        """Ends the connection."""
+        self.link.close()
