@@ -375,10 +375,21 @@ class FileStore(Store):
             self.ledger = None
 
 
+class Blocks(Protocol):
+    """A store that is asked for blocks."""
+
+    @property
+    def segments(self) -> Mapping[int, int]:
+        """The bytes of each segment."""
+
+    def read(self, keys: list[tuple[int, int]]) -> tuple[int, dict[tuple[int, int], bytes]]:
+        """Blocks of the store, all of one moment, and its number."""
+
+
 class Moment:
     """Where a transaction over a served store reads: blocks of bytes, all of one moment."""
 
-    def __init__(self, store: ServedStore) -> None:
+    def __init__(self, store: Blocks) -> None:
         self.store = store
         self.number: Optional[int] = None
         self.blocks: dict[tuple[int, int], bytes] = {}
@@ -396,6 +407,11 @@ class Moment:
         if missing:
             self._fetch(missing)
         return b"".join(self.blocks[it] for it in keys)[offset - first : offset - first + count]
+
+    @staticmethod
+    def ranges(keys: list[tuple[int, int]], segments: Mapping[int, int]) -> list[list[int]]:
+        """The ranges of blocks."""
+        return [[segment, at, min(BLOCK, segments[segment] - at)] for segment, at in keys]
 
     def _fetch(self, keys: list[tuple[int, int]]) -> None:
         """Reads blocks, and those before anew where another moment has come."""
@@ -417,8 +433,12 @@ class ServedStore(Store):
         self.wire: Optional[Wire] = None
         self.session = uuid.uuid4().hex
         self.asked = 0
-        self.segments: dict[int, int] = {}
-        self.segments = {int(it): size for it, size in self._one({"stat": True})["segments"].items()}
+        self._segments = {int(it): size for it, size in self._one({"stat": True})["segments"].items()}
+
+    @property
+    def segments(self) -> Mapping[int, int]:
+        """The bytes of each segment."""
+        return self._segments
 
     def number(self) -> int:
         """The store's number: how many commits it has had."""
@@ -430,7 +450,7 @@ class ServedStore(Store):
 
     def read(self, keys: list[tuple[int, int]]) -> tuple[int, dict[tuple[int, int], bytes]]:
         """Blocks of the store, all of one moment, and its number."""
-        wanted = [[segment, at, min(BLOCK, self.segments[segment] - at)] for segment, at in keys]
+        wanted = Moment.ranges(keys, self.segments)
         if sum(count for _, _, count in wanted) > READ:
             raise mistaken(f"a transaction over a served store reads at most {READ} bytes")
         answer = self._one({"read": wanted})
@@ -438,7 +458,7 @@ class ServedStore(Store):
 
     def answered(self, name: str) -> Optional[Ended]:
         """How a request under this name ended, or None."""
-        return _end(self._one({"answered": name})["end"])
+        return end_told(self._one({"answered": name})["end"])
 
     def ask(self, requests: list[Request], name: Optional[str] = None) -> list[Ended]:
         """Runs requests to their ends. Under a name each is answered once for ever."""
@@ -448,7 +468,7 @@ class ServedStore(Store):
         messages: list[dict[str, Any]] = []
         for place, it in enumerate(requests):
             messages.append({"name": f"{name}.{place}", **message_of(it)})
-        return [end for end in (_end(it["end"]) for it in self._exchange(messages)) if end is not None]
+        return [end for end in (end_told(it["end"]) for it in self._exchange(messages)) if end is not None]
 
     def _one(self, message: dict[str, Any]) -> dict[str, Any]:
         """The answer of a message."""
@@ -498,7 +518,7 @@ class ServedStore(Store):
             self.wire = None
 
 
-def _end(line: Optional[str]) -> Optional[Ended]:
+def end_told(line: Optional[str]) -> Optional[Ended]:
     """The end that a line tells."""
     found = None if line is None else line_of(line)
     return found if isinstance(found, Ended) else None

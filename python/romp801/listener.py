@@ -55,6 +55,7 @@ class Waiting:
         self.waits: dict[str, list[tuple[Client, Any]]] = {}
         self.ended: list[tuple[str, Mapping[str, Any]]] = []
         self.lock = threading.Lock()
+        self.closed: Optional[str] = None
 
     # of any thread
 
@@ -87,6 +88,15 @@ class Waiting:
                 client.put({"tag": tag, **answer})
                 client.room.release()
 
+    def close(self, why: str) -> None:
+        """Nobody is answered any more: all are to ask again."""
+        self.closed = why
+        self.take()
+        for name in [*self.waits]:
+            for client, tag in self.waits.pop(name):
+                client.put({"tag": tag, "again": why})
+                client.room.release()
+
     async def wait(
         self, client: Client, tag: Any, name: str, request: Request, known: Callable[[], Optional[Mapping[str, Any]]],
         more: Any = None,
@@ -96,7 +106,7 @@ class Waiting:
         if name in self.waits:
             self.waits[name].append((client, tag))
             return
-        found = known()
+        found = known() if self.closed is None else {"again": self.closed}
         if found is not None:
             client.room.release()
             client.put({"tag": tag, **found})
