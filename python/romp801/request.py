@@ -7,7 +7,7 @@ where one isn't, and else writes. So it is one more commit of the proved program
 from __future__ import annotations
 
 import collections
-from typing import Any, Callable, Iterable, Iterator, Mapping, NamedTuple, Optional, Union
+from typing import Any, Callable, Iterable, Iterator, Mapping, NamedTuple, Optional, Sequence, Union
 
 from romp801 import job, program
 from romp801.errors import WRONG_USE, Failure
@@ -311,7 +311,7 @@ def run_job(
     text: bytes,
     take: Callable[[Ended], None],
     seconds: Optional[float],
-    keeps: Iterable[int] = (),
+    keeps: Sequence[int] = (),
 ) -> Told:
     """Runs a job on a store, and hands each end over as its line is put. Who has the store is waited for, `seconds`
     long. `keeps` are open files that the program has too."""

@@ -19,14 +19,16 @@ class Wire:
 
     def __init__(self, link: socket.socket, seconds: float) -> None:
         self.link, self.seconds = link, seconds
-        self.left = b""
+        self.left, self.tag = b"", 0
         link.setblocking(False)
 
     def ask(self, messages: Mapping[int, Mapping[str, Any]]) -> Iterator[Tuple[int, dict[str, Any]]]:
-        """Sends messages, each under its tag, and hands over their answers as they come. It reads while it sends:
-        both may be long. Raises OSError where the other side has gone."""
-        out = b"".join(json.dumps({"tag": tag, **it}).encode() + b"\n" for tag, it in messages.items())
-        waiting = set(messages)
+        """Sends messages, each under its key, and hands over their answers as they come. It reads while it sends: both
+        may be long. Raises OSError where the other side has gone."""
+        # (no tag comes twice: an answer to what was asked before is none of these)
+        waiting = {self.tag + place: key for place, key in enumerate(messages)}
+        self.tag += len(messages)
+        out = b"".join(json.dumps({"tag": tag, **messages[key]}).encode() + b"\n" for tag, key in waiting.items())
         while waiting:
             sent = self._send(out)
             out = out[sent:]
@@ -37,8 +39,7 @@ class Wire:
                 if answer.get("tag") is None:
                     raise Failure(str(answer.get("error") or answer.get("again")))
                 if answer["tag"] in waiting:
-                    waiting.discard(answer["tag"])
-                    yield answer["tag"], answer
+                    yield waiting.pop(answer["tag"]), answer
 
     def _send(self, out: bytes) -> int:
         """Sends some bytes; answers how many went."""

@@ -111,13 +111,14 @@ class Nodes:
 
 
 class ClusterStore(Store):
-    """A store of a cluster."""
+    """A store of a cluster. `asked` says whose the requests of the last call were."""
 
     def __init__(self, nodes: Nodes, name: str) -> None:
         self.nodes, self.name = nodes, name
         self.at: Optional[str] = None
         self.moment: Optional[list[int]] = None
         self.since, self._segments = 0, dict[int, int]()
+        self.asked: list[list[Any]] = []
         self.begin_session()
 
     def begin_session(self) -> None:
@@ -227,6 +228,8 @@ class ClusterStore(Store):
         if asks and self.moment is None:
             self._stat()
         exchange = _Exchange(self, messages, self._who(len(messages), at, name) if asks else None, name is None)
+        if exchange.who is not None:
+            self.asked = exchange.who
         try:
             return exchange.work()
         except (Unanswered, TooLate):
@@ -362,7 +365,7 @@ class Cluster:
     def find(self, key: int, anew: bool = False) -> Place:
         """Where a key's records are: slot key modulo slots, row key divided by slots."""
         if anew or not self.slots:
-            self.slots = self.nodes.any({"slots": True})["slots"]
+            self.slots = self.nodes.any({"table": True})["table"]
         slot = key % len(self.slots)
         store, place, turn, _ = self.slots[slot]
         return Place(store, slot, place, turn, key // len(self.slots))

@@ -67,11 +67,14 @@ class Port(Lines):
             client.put({"tag": tag, "hello": self.node.options.name})
         elif "status" in message:
             client.put({"tag": tag, **self.node.status()})
-        elif "slots" in message:
+        elif "table" in message:
             config = await self.node.loop.run_in_executor(None, Config.read, self.node.engine)
-            client.put({"tag": tag, "slots": config.slots, "stores": config.stores})
+            client.put({"tag": tag, "table": config.slots, "stores": config.stores})
         else:
             keeper = self.node.keepers.get(message["store"])
+            if not self.node.has_begun:
+                client.put({"tag": tag, "elsewhere": None})
+                return
             if keeper is None:
                 raise mistaken(f"there is no store {message['store']}: there are {', '.join(self.node.keepers)}")
             serving = keeper.serving
@@ -100,7 +103,7 @@ class Port(Lines):
             order = Order(who, _guard(message))
             await serving.waiting.wait(client, tag, who.name, request, lambda: _told(serving, who), order)
         else:
-            raise mistaken("a request has `run`, `write`, `read`, `answered`, `stat`, `slots`, `status` or `hello`")
+            raise mistaken("a request has `run`, `write`, `read`, `answered`, `stat`, `table`, `status` or `hello`")
 
     async def _read(self, client: Client, tag: Any, serving: Serving, message: dict[str, Any]) -> None:
         """Bytes of one moment."""
@@ -153,7 +156,7 @@ class Node:
         self.token = f"{options.name}-{os.getpid()}-{os.urandom(4).hex()}"
         self.lease: Optional[int] = None
         self.keepers: dict[str, Keeper] = {}
-        self.whispered = 0.0
+        self.whispered, self.has_begun = 0.0, False
         safety.look_at_port(options.listen)
         safety.look_at_engine(engine)
         self.held = files.hold_folder(options.folder)
@@ -180,6 +183,7 @@ class Node:
                 time.sleep(0.2)
         self.cluster = config.cluster
         self.keepers = {name: Keeper(self, name) for name in config.stores}
+        self.has_begun = True
         for keeper in self.keepers.values():
             keeper.start()
         for work in (self._lease_loop, self._watch_loop):

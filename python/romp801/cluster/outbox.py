@@ -52,14 +52,14 @@ class Outbox:
         """Hands on what lies in all outboxes; answers how many letters weren't handed on, since their slots are being
         moved. Who moves a slot names it, and alone hands on what is for it."""
         left = 0
-        told = self.cluster.nodes.any({"slots": True})
+        told = self.cluster.nodes.any({"table": True})
         for sender, store in enumerate(told["stores"]):
             letters = self.letters(sender, store)
-            late = self._deliver(letters, told["slots"], frozen)
+            late = self._deliver(letters, told["table"], frozen)
             left += len(late)
             last = min(late) - 1 if late else max((it.number for it in letters), default=0)
             if letters and last >= letters[0].number:
-                _sure(self.cluster.store(store).run(("sent", last)))
+                _sure(self.tried(store, [Run("sent", (last,))], {}))
         return left
 
     def _deliver(self, letters: list[Letter], slots: list[Any], frozen: Optional[int]) -> list[int]:
@@ -75,10 +75,14 @@ class Outbox:
                 Run("receive", (it.number, it.sender, self._offset(it.key // len(slots), place), it.amount))
                 for it in some
             ]
-            ends = self.cluster.store(store).tried(requests, None, {word: [[slot, place, turn]]})
-            _sure([it for it in ends if it is not None])
+            ends = self.tried(store, requests, {word: [[slot, place, turn]]})
+            _sure(ends)
             late += [it.number for it, end in zip(some, ends) if end is None]
         return late
+
+    def tried(self, store: str, requests: list[Request], guard: dict[str, Any]) -> list[Optional[Ended]]:
+        """Asks a store; None is for each whose slot isn't there."""
+        return self.cluster.store(store).tried(requests, None, guard)
 
     def _offset(self, row: int, place: int) -> int:
         """Where a record lies in segment 1."""
@@ -90,8 +94,8 @@ class Outbox:
             pass
 
 
-def _sure(ends: list[Ended]) -> None:
-    """Each was done now, or gave up since it was done before."""
+def _sure(ends: list[Optional[Ended]]) -> None:
+    """Each that was run was done now, or gave up since it was done before."""
     for end in ends:
-        if not isinstance(end, Commit) and not (isinstance(end, Check) and end.code == GAVE_UP):
+        if end is not None and not isinstance(end, Commit) and not (isinstance(end, Check) and end.code == GAVE_UP):
             raise Failure(f"the outbox isn't drained: {end.how}")

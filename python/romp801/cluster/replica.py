@@ -25,6 +25,8 @@ from romp801.errors import Failure
 
 MERGED = 700000
 """Bytes of texts that are followed by one call."""
+REPLACED = (2, 12, 13)
+"""Statuses of `follow` with which a copy can't go on."""
 ENTRIES = 16
 """Entries that are read at once: an answer of the engine has bounds."""
 
@@ -176,12 +178,12 @@ class Replica:
                 self.number, self.sum = entries[-1].last, total
         for entry, total in zip(entries, sums):
             self._compare(entry.last, total)
-        if done.returncode:
-            self.say(program.ended(done.returncode, done.stderr))
-            with self.lock:
-                self.held.close()
-                self.held = None
-            raise EngineFault(f"{self.name}: the copy is made anew")
+        if done.returncode in REPLACED:
+            self.say(f"the copy is made anew: {program.ended(done.returncode, done.stderr)}")
+            self.install()
+        elif done.returncode:
+            # (what it has of the text is passed over the next time)
+            raise EngineFault(f"{self.name}: follow: {program.ended(done.returncode, done.stderr)}")
         return True
 
     def snapshot(self) -> Image:

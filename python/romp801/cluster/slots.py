@@ -6,7 +6,7 @@ store's. Each step can be done again, so who moves a slot may be killed, and cal
 """
 from __future__ import annotations
 
-from typing import Any, Callable, Iterable
+from typing import Any, Callable, Iterable, Optional
 
 from romp801.cluster.client import Cluster
 from romp801.cluster.engine import Engine
@@ -14,7 +14,7 @@ from romp801.cluster.keys import Config, Slot
 from romp801.cluster.setup import change
 from romp801.errors import NO, WRONG_USE, Failure
 from romp801.records import Records
-from romp801.report import Commit
+from romp801.report import Commit, Ended
 from romp801.request import Apply, Request, words_at
 
 STEP = 2048
@@ -82,10 +82,15 @@ class Move:
             writes: list[Request] = [
                 Apply((), tuple(words_at(it.segment, second + at, part))) for (at, _), part in zip(ranges, data)
             ]
-            for end in other.ask(writes, None, takes):
+            for end in self.put(slot.to[0], writes, takes):
                 if not isinstance(end, Commit):
-                    raise Failure(f"{slot.to[0]} doesn't take the records of slot {self.slot}: {end.how}")
+                    why = "its slots were changed" if end is None else end.how
+                    raise Failure(f"{slot.to[0]} doesn't take the records of slot {self.slot}: {why}")
             _, found = other.look([[it.segment, second + at, count] for at, count in ranges], takes)
             if found != data:
                 raise Failure(f"{slot.to[0]} has other records of slot {self.slot} than {slot.store}")
 
+
+    def put(self, store: str, writes: list[Request], takes: dict[str, Any]) -> list[Optional[Ended]]:
+        """Asks a store for writes."""
+        return self.cluster.store(store).tried(writes, None, takes)

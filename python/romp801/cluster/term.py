@@ -77,7 +77,7 @@ class Term:
         self.replica, self.engine, self.created = replica, engine, created
         self.keys, self.program = replica.keys, replica.program
         self.is_alive, self.told, self.untold, self.wake = is_alive, told, untold, wake
-        self.seen, self.lock = Seen(), threading.Lock()
+        self.seen, self.lock = Seen(), threading.RLock()
         self.most, self.counts = BATCH, {"jobs": 0, "commits": 0, "halved": 0, "run": 0.0, "ship": 0.0, "put": 0.0}
         self.work: Optional[Held] = None
         self.free = threading.Condition()
