@@ -1,2 +1,2 @@
 """What checks/cluster_storm is made of: machines that fail (`house`, `proxy`, `weather`), wrong bodies (`broken`), clients
-that note what they are told (`load`), and who judges it (`judge`, and `porcupine` of another hand)."""
+that note what they are told (`load`), and two who judge it (`judge`, and `linear`, which knows nothing of the first)."""
