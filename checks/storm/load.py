@@ -10,7 +10,7 @@ from romp801 import Failure, Records, Transaction
 from romp801.cluster.client import Cluster, ClusterStore, Place, TooLate, Unanswered, guard_of
 from romp801.cluster.outbox import Outbox
 from romp801.errors import WRONG_USE
-from romp801.report import Ended
+from romp801.report import Commit, Ended
 from romp801.request import Apply, Request, Run, Word
 
 SLOTS = 24
@@ -231,7 +231,8 @@ class Load:
         other = self.cluster()
         again = self.ask(other.store(store.name), [request], {}, ticket)[0]
         other.close()
-        if first != again:
+        told = [(it.number, it.out) if isinstance(it, Commit) else it for it in (first, again)]
+        if told[0] != told[1]:
             with self.lock:
                 self.faults.append(f"once: {ticket} was told {first}, and then {again}")
 
@@ -253,7 +254,7 @@ class Load:
         box = NotedOutbox(self, cluster)
         while not until():
             is_last = self.over.is_set() and not any(it.is_alive() for it in threads)
-            box.handed = 0
+            box.handed, box.kills = 0, 0.0 if is_last else 0.2
             try:
                 left = box.drain()
             except (Failure, OSError) as failure:
@@ -270,13 +271,16 @@ class Load:
 
 
 class NotedOutbox(Outbox):
-    """An outbox whose requests are noted."""
+    """An outbox whose requests are noted, and of which one that drains is killed at times."""
 
     def __init__(self, load: Load, cluster: Cluster) -> None:
         super().__init__(cluster)
-        self.load, self.handed = load, 0
+        self.load, self.handed, self.kills = load, 0, 0.0
+        self.order = random.Random(load.seed)
 
     def tried(self, store: str, requests: List[Request], guard: Dict[str, Any]) -> List[Optional[Ended]]:
         """Asks, and notes."""
+        if self.order.random() < self.kills:
+            raise Failure("who drained was killed")
         self.handed += len(requests)
         return self.load.ask(self.cluster.store(store), requests, guard)

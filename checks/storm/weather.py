@@ -16,7 +16,7 @@ from romp801.cluster.engine import EngineFault
 from romp801.cluster.keys import Config, Keys
 from romp801.cluster.setup import change, put_programs
 from romp801.cluster.slots import Move
-from romp801.request import Run
+from romp801.request import Apply, Run, Word
 from storm.house import House
 from storm.load import ACCOUNT, SLOTS, Load, NotedOutbox
 
@@ -328,12 +328,13 @@ class Weather:
             load.calm.set()
 
     def _old_asked(self, reader: Cluster, writer: Cluster, store: str) -> None:
-        """The new primary takes a deposit; the old one is asked what there is, and for a transfer that there is too little for."""
-        self.load.ask(writer.store(store), [Run("deposit", (7, 15 * ACCOUNT))], {})
+        """The new primary takes a deposit and a word; the old one is asked what there is, and to change that word."""
+        word = Word(3, 1792, (1 << 32) - 1, self.random.randrange(1, 1 << 32))
+        self.load.ask(writer.store(store), [Run("deposit", (7, 15 * ACCOUNT)), Apply((), (word,))], {})
         for _ in range(3):
             self._read(reader, store)
         try:
-            self.load.ask(reader.store(store), [Run("move", (1, 14 * ACCOUNT, 15 * ACCOUNT))], {})
+            self.load.ask(reader.store(store), [Apply((word,), (word._replace(value=0),))], {})
         except (Failure, OSError):
             pass
 

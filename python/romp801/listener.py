@@ -1,8 +1,8 @@
 """Clients that send lines of JSON, and what they wait for. A served store and a node of a cluster have it in common.
 
-Each line has a `tag`, and is answered by a line with the same one, in whatever order they end. `{"tag": 1, "error":
-WHY}` says that a request can't be run, and `{"tag": 1, "again": WHY}` that what came of it isn't known yet: it is asked
-again, under its name.
+Each line has a `tag`, and is answered by a line with the same one, in whatever order they end. A line may be a list of
+such messages too; each is answered by itself. `{"tag": 1, "error": WHY}` says that a request can't be run, and
+`{"tag": 1, "again": WHY}` that what came of it isn't known yet: it is asked again, under its name.
 """
 from __future__ import annotations
 
@@ -34,11 +34,19 @@ class Client:
     def __init__(self, writer: asyncio.StreamWriter) -> None:
         self.writer = writer
         self.room = asyncio.Semaphore(WAITING)
+        self.lines: list[str] = []
 
     def put(self, answer: Mapping[str, Any]) -> None:
-        """Sends a line, if somebody is there."""
-        if not self.writer.is_closing():
-            self.writer.write(json.dumps(answer, separators=(",", ":")).encode() + b"\n")
+        """Sends a line, if somebody is there, with others that come at once."""
+        self.lines.append(json.dumps(answer, separators=(",", ":")))
+        if len(self.lines) == 1:
+            asyncio.get_running_loop().call_soon(self.send)
+
+    def send(self) -> None:
+        """Sends the lines that there are."""
+        lines, self.lines = self.lines, []
+        if lines and not self.writer.is_closing():
+            self.writer.write("".join(f"{line}\n" for line in lines).encode())
 
 
 class Waiting:
@@ -151,18 +159,28 @@ class Lines:
             pass
         finally:
             self.clients -= 1
+            client.send()
             writer.close()
 
     async def line(self, client: Client, line: bytes) -> None:
-        """Takes one line of a client."""
+        """Takes one line of a client: a message, or a list of them."""
+        try:
+            found = json.loads(line)
+        except (ValueError, RecursionError) as error:
+            client.put({"tag": None, "error": f"this is no request: {type(error).__name__} {error}"})
+            return
+        for message in found if isinstance(found, list) else [found]:
+            await self._one(client, message)
+
+    async def _one(self, client: Client, message: Any) -> None:
+        """Takes one message."""
         tag = None
         try:
-            message = json.loads(line)
             if not isinstance(message, dict):
-                raise mistaken("a line is an object of JSON")
+                raise mistaken("a line is an object of JSON, or a list of them")
             tag = message.get("tag")
             await self.message(client, tag, message)
         except Failure as failure:
             client.put({"tag": tag, "error": str(failure)})
-        except (ValueError, TypeError, KeyError, RecursionError) as error:
+        except (ValueError, TypeError, KeyError, AttributeError, IndexError) as error:
             client.put({"tag": tag, "error": f"this is no request: {type(error).__name__} {error}"})

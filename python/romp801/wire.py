@@ -28,14 +28,14 @@ class Wire:
         # (no tag comes twice: an answer to what was asked before is none of these)
         waiting = {self.tag + place: key for place, key in enumerate(messages)}
         self.tag += len(messages)
-        out = b"".join(json.dumps({"tag": tag, **messages[key]}).encode() + b"\n" for tag, key in waiting.items())
+        out = _lines([{"tag": tag, **messages[key]} for tag, key in waiting.items()])
         while waiting:
             sent = self._send(out)
             out = out[sent:]
             data = self._take()
             if not sent and data is None:
                 self._wait(bool(out))
-            for answer in self._lines(data or b""):
+            for answer in self._whole(data or b""):
                 if answer.get("tag") is None:
                     raise Failure(str(answer.get("error") or answer.get("again")))
                 if answer["tag"] in waiting:
@@ -64,7 +64,7 @@ class Wire:
         if not can_read and not can_write:
             raise TimeoutError(f"no answer in {self.seconds:g} seconds")
 
-    def _lines(self, data: bytes) -> Iterator[dict[str, Any]]:
+    def _whole(self, data: bytes) -> Iterator[dict[str, Any]]:
         """The whole lines that there are."""
         *lines, self.left = (self.left + data).split(b"\n")
         return map(json.loads, lines)
@@ -72,3 +72,17 @@ class Wire:
     def close(self) -> None:
         """Ends the connection."""
         self.link.close()
+
+
+def _lines(messages: list[Any]) -> bytes:
+    """Messages as lines: lists of them, none of which is too long."""
+    texts = [json.dumps(it) for it in messages]
+    lines: list[list[str]] = [[]]
+    size = 0
+    for it in texts:
+        if size + len(it) > PART:
+            lines.append([])
+            size = 0
+        lines[-1].append(it)
+        size += len(it) + 2
+    return "".join(f"[{', '.join(it)}]\n" if len(it) > 1 else f"{it[0]}\n" for it in lines if it).encode()
