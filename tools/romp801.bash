@@ -53,6 +53,10 @@ _romp801_script() {
         options='--help --copy --wait --program'
         values='--wait'
         ;;
+    cluster | romp801-cluster)
+        options='--help --engine --nodes --tls --secret --programs --slots --name --folder --listen --lease --save --image-every --slack --rows --outbox --seconds --from --to --program'
+        values='--engine --nodes --slots --name --listen --lease --save --image-every --slack --rows --seconds'
+        ;;
     dump | romp801-dump)
         options='--help --wait'
         values='--wait'
@@ -115,6 +119,9 @@ complete -o filenames -F _romp801_script romp801-addresses \
     romp801-catch-up \
     tools/catch-up \
     ./tools/catch-up \
+    romp801-cluster \
+    tools/cluster \
+    ./tools/cluster \
     romp801-dump \
     tools/dump \
     ./tools/dump \

@@ -32,13 +32,13 @@ WRONG: Dict[str, List[Edit]] = {
         (KEEPER, "        while term.why is None and self.node.lease == lease:", "        while term.why is None:"),
     ],
     "gives-up-unfenced": [
-        (TERM, "        entry, deeds, packed = batch.entry, [], b\"\"\n", "        entry, deeds, packed = batch.entry, [], b\"\"\n        if entry is None:\n            return\n"),
+        (TERM, "        entry, deeds = batch.entry, []\n", "        entry, deeds = batch.entry, []\n        if entry is None:\n            return\n"),
         (KEEPER, "        while term.why is None and self.node.lease == lease:", "        while term.why is None:"),
     ],
     "lying-text": [(TERM, '        text = program.refused(shipped, "ship").stdout.decode()\n',
-                    '        text = program.refused(shipped, "ship").stdout.decode().replace("line 0 0", "line 0 1", 1)\n')],
-    "lying-steps": [(TERM, "        done = tuple(Done(it.more.who, it.request, end) for it, end in commits)\n",
-                     "        done = tuple(Done(it.more.who, it.request, Commit(1, end.number, end.steps + (end.number == 50), end.out))"
+                    '        text = program.refused(shipped, "ship").stdout.decode().replace("\\nline 1 0", "\\nline 1 1", 1)\n')],
+    "lying-steps": [(TERM, "        done = tuple(Done(it.more.who, message_of(it.request), end) for it, end in commits)\n",
+                     "        done = tuple(Done(it.more.who, message_of(it.request), Commit(1, end.number, end.steps + (end.number == 50), end.out))"
                      " for it, end in commits)\n")],
     "lying-number": [(KEEPER, '        return {"end": str(end), "at": self.moment()}',
                       '        return {"end": str(end).replace("number 50 ", "number 7 "), "at": self.moment()}')],

@@ -13,7 +13,7 @@ from romp801.cluster.safety import Safety, address
 from romp801.cluster.setup import named
 from romp801.cluster.table import Late, Old, Seen, Table, Who
 from romp801.report import Check, Commit
-from romp801.request import Apply, Front, Run, Word
+from romp801.request import Apply, Front, Run, Word, message_of
 
 from tests.stores import PROGRAMS, Case
 
@@ -174,10 +174,14 @@ class History(Case):
 
     def test_entry(self) -> None:
         """An entry is read as it was put."""
-        asked = Apply((Word(1, 0, 1, 1),), (Word(1, 4, 2, 2),))
-        done = (Done(who("a", 0), Run("add", (1, 2)), Commit(1, 6, 3, b"\x01")), Done(who("b", 1), asked, Commit(2, 7, 9, b"")))
+        asked = (Run("add", (1, 2)), Apply((Word(1, 0, 1, 1),), (Word(1, 4, 2, 2),)))
+        done = (
+            Done(who("a", 0), message_of(asked[0]), Commit(1, 6, 3, b"\x01")), Done(who("b", 1), message_of(asked[1]), Commit(2, 7, 9, b""))
+        )
         entry = Entry(5, 7, link("", "t"), 12, "p", done, "t")
-        self.assertEqual(Entry.of(entry.packed()), entry)
+        found = Entry.of(entry.packed())
+        self.assertEqual([it._replace(asked={}) for it in found.done], [it._replace(asked={}) for it in done])
+        self.assertEqual((found._replace(done=()), tuple(it.request for it in found.done)), (entry._replace(done=()), asked))
         for data in (b"", entry.packed()[:-5], b"x" * 40):
             with self.assertRaises(Failure):
                 Entry.of(data)

@@ -147,13 +147,10 @@ class Told(Cases):
     def test_behind(self) -> None:
         """A commit is told when the engine has taken it, and gives its own number and bytes."""
         one = self.primary()
-
-        def before(compares: List[Part], deeds: List[Part]) -> None:
-            """Nothing was told so far."""
-            self.assertEqual(one.told, [])
-
-        self.engine.before = before
+        early: List[Any] = []
+        self.engine.before = lambda compares, deeds: early.extend(one.told)
         self.assertEqual(one.ask(ADD, NO), ["commit 1 number 1 steps 6 out -", "check 2 code 8 at 00000000"])
+        self.assertEqual(early, [])
         self.assertEqual(one.commits(), [("a", 0, 1)])
         for place in range(49):
             self.engine.before = lambda compares, deeds: None

@@ -8,23 +8,28 @@ from __future__ import annotations
 import hashlib
 import json
 import zlib
-from typing import Any, Iterator, NamedTuple, Tuple
+from typing import Any, Iterator, Mapping, NamedTuple, Tuple
 
 from romp801.cluster.table import Who
 from romp801.errors import Failure
 from romp801.report import Commit
-from romp801.request import Request, message_of, request_of
+from romp801.request import Request, request_of
 
 LARGEST = 1400000
 """Bytes of an entry: the engine takes 1.5 MiB in one call."""
 
 
 class Done(NamedTuple):
-    """A request that committed: whose it is, what it asked, and its commit line."""
+    """A request that committed: whose it is, what it asked as a message has it, and its commit line."""
 
     who: Who
-    request: Request
+    asked: Mapping[str, Any]
     commit: Commit
+
+    @property
+    def request(self) -> Request:
+        """What it asked."""
+        return request_of(self.asked)
 
 
 class Entry(NamedTuple):
@@ -41,7 +46,7 @@ class Entry(NamedTuple):
 
     def packed(self) -> bytes:
         """Its bytes in the engine."""
-        done = [[it.who, message_of(it.request), it.commit.number, it.commit.steps, it.commit.out.hex()] for it in self.done]
+        done = [[it.who, it.asked, it.commit.number, it.commit.steps, it.commit.out.hex()] for it in self.done]
         raw = {**self._asdict(), "done": done}
         return zlib.compress(json.dumps(raw, separators=(",", ":")).encode(), 1)
 
@@ -59,7 +64,7 @@ class Entry(NamedTuple):
 def _done(it: Tuple[int, Any]) -> Done:
     """One that committed, and its place in the entry."""
     place, (who, asked, number, steps, out) = it
-    return Done(Who(*who), request_of(asked), Commit(place, number, steps, bytes.fromhex(out)))
+    return Done(Who(*who), asked, Commit(place, number, steps, bytes.fromhex(out)))
 
 
 def link(before: str, text: str) -> str:

@@ -84,6 +84,8 @@ class Config(NamedTuple):
     def has(self, store: str, guard: Mapping[str, Any]) -> bool:
         """Whether a store has the slots that a message names, each with the place and the turn that it knows: `slots`
         are served, and `frozen` and `filled` are those that are moved, at the store that gives and the one that takes."""
+        if not guard:
+            return True
         served = all(self._slot(it) == Slot(store, it[1], it[2]) for it in guard.get("slots", ()))
         frozen = (self._slot(it) for it in guard.get("frozen", ()))
         gives = all(slot is not None and slot.store == store and slot.to is not None for slot in frozen)

@@ -6,6 +6,7 @@ the engine's history, as where the engine was put back to a backup, is set aside
 """
 from __future__ import annotations
 
+import collections
 import contextlib
 import json
 import os
@@ -47,6 +48,7 @@ class Replica:
         self.saved, self.saved_at = -1, 0.0
         self.images = 0
         self.noted: Optional[tuple[int, str]] = None
+        self.offered: collections.deque[Entry] = collections.deque()
         self._look_at_file()
 
     # the file
@@ -126,22 +128,44 @@ class Replica:
         if self.held is None:
             self.install()
             return True
-        items = self.engine.range(self.keys.log(self.number + 1), etcd.end_of(self.keys.logs), ENTRIES)
-        entries: list[Entry] = []
-        size = 0
-        for it in items:
-            entry = Entry.of(it.value)
-            size += len(entry.text)
-            if entries and size > MERGED:
-                break
-            entries.append(entry)
-            self.grown += len(it.value)
+        entries = self._at_hand() or self._read()
         if not entries:
             return self._at_end()
         if entries[0].first > self.number:
             self.install()
             return True
         return self._take(entries)
+
+    def offer(self, entry: Entry) -> None:
+        """An entry that the engine has taken, by who put it: it needn't be read."""
+        self.offered.append(entry)
+
+    def _at_hand(self) -> list[Entry]:
+        """The entries behind the copy that are at hand."""
+        found: list[Entry] = []
+        number, size = self.number, 0
+        while self.offered and size < MERGED:
+            entry = self.offered.popleft()
+            if entry.first == number:
+                found.append(entry)
+                number, size = entry.last, size + len(entry.text)
+                self.grown += len(entry.text) // 4
+            elif entry.last > number:
+                self.offered.clear()
+        return found
+
+    def _read(self) -> list[Entry]:
+        """Some of the entries that the engine has behind the copy."""
+        found: list[Entry] = []
+        size = 0
+        for it in self.engine.range(self.keys.log(self.number + 1), etcd.end_of(self.keys.logs), ENTRIES):
+            entry = Entry.of(it.value)
+            size += len(entry.text)
+            if found and size > MERGED:
+                break
+            found.append(entry)
+            self.grown += len(it.value)
+        return found
 
     def _at_end(self) -> bool:
         """There is nothing behind the copy: it must be at the head, unless entries were removed meanwhile."""

@@ -10,7 +10,7 @@ from __future__ import annotations
 import collections
 from typing import Any, Iterable, Mapping, NamedTuple, Union
 
-from romp801.report import Ended, line_of
+from romp801.report import Commit, Ended, line_of
 
 KEPT = 100000
 """Commits after which a session that did nothing since is forgotten."""
@@ -70,15 +70,26 @@ Known = Union[Ended, Old, Late, None]
 class _Session:
     """What is remembered of one."""
 
-    __slots__ = ("since", "first", "ends", "last")
+    __slots__ = ("since", "first", "ends", "last", "size")
 
-    def __init__(self, since: int, first: int, ends: dict[int, str], last: int) -> None:
+    def __init__(self, since: int, first: int, ends: dict[int, Ended], last: int) -> None:
         self.since, self.first, self.ends, self.last = since, first, ends, last
+        self.size = 100 + sum(map(_size, ends.values()))
 
-    @property
-    def size(self) -> int:
-        """Its bytes, about."""
-        return 100 + sum(map(len, self.ends.values()))
+    def take(self, who: Who, end: Ended) -> None:
+        """A request ended."""
+        if self.first < who.first:
+            self.first = who.first
+            self.ends = {place: it for place, it in self.ends.items() if place >= who.first}
+            self.size = 100 + sum(map(_size, self.ends.values()))
+        if who.place not in self.ends:
+            self.size += _size(end)
+        self.ends[who.place] = end
+
+
+def _size(end: Ended) -> int:
+    """Its bytes, about."""
+    return 100 + len(end.out) if isinstance(end, Commit) else 100
 
 
 class Table:
@@ -91,18 +102,12 @@ class Table:
 
     def take(self, who: Who, end: Ended, at: int) -> None:
         """A request ended, at this number of the store."""
-        held = self.sessions.pop(who.session, None)
-        if held is not None:
-            self.bytes -= held.size
-        else:
-            held = _Session(who.since, who.first, {}, at)
-        if held.first < who.first:
-            held.first = who.first
-            held.ends = {place: it for place, it in held.ends.items() if place >= who.first}
-        held.ends[who.place] = str(end)
+        held = self.sessions.pop(who.session, None) or _Session(who.since, who.first, {}, at)
+        before = held.size if held.ends else 0
+        held.take(who, end)
         held.last = at
         self.sessions[who.session] = held
-        self.bytes += held.size
+        self.bytes += held.size - before
         self._forget(at)
 
     def _forget(self, at: int) -> None:
@@ -124,19 +129,21 @@ class Table:
             return Late() if who.since < self.horizon else None
         found = held.ends.get(who.place)
         if found is not None:
-            end = line_of(found)
-            assert isinstance(end, Ended)
-            return end
+            return found
         return Old() if who.place < held.first else None
 
     def copy(self) -> Table:
         """Another with the same."""
-        return Table.of(self.raw())
+        made = Table(self.horizon)
+        for name, it in self.sessions.items():
+            made.sessions[name] = _Session(it.since, it.first, dict(it.ends), it.last)
+        made.bytes = self.bytes
+        return made
 
     def raw(self) -> dict[str, Any]:
         """All of it, for an image."""
         sessions = [
-            [name, it.since, it.first, it.last, [[place, end] for place, end in it.ends.items()]]
+            [name, it.since, it.first, it.last, [[place, str(end)] for place, end in it.ends.items()]]
             for name, it in self.sessions.items()
         ]
         return {"horizon": self.horizon, "sessions": sessions}
@@ -147,9 +154,16 @@ class Table:
         made = cls(raw["horizon"])
         sessions: Iterable[Any] = raw["sessions"]
         for name, since, first, last, ends in sessions:
-            held = made.sessions[name] = _Session(since, first, dict(ends), last)
+            held = made.sessions[name] = _Session(since, first, {place: _end(line) for place, line in ends}, last)
             made.bytes += held.size
         return made
+
+
+def _end(line: str) -> Ended:
+    """The end that a line tells."""
+    found = line_of(line)
+    assert isinstance(found, Ended)
+    return found
 
 
 class Seen:

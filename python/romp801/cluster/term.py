@@ -21,7 +21,7 @@ from romp801.cluster.replica import Replica
 from romp801.cluster.table import Known, Seen, Table, Who
 from romp801.errors import FAILED, WRONG_USE, Failure
 from romp801.report import Commit, Ended, Finish, line_of
-from romp801.request import BATCH, Asked, Front, Take, is_conflict, is_final
+from romp801.request import BATCH, Asked, Front, Take, is_conflict, is_final, message_of
 
 AT_HEAD = 20.0
 """Seconds that a primary waits until its copy is at the head."""
@@ -52,12 +52,13 @@ class Elsewhere(Ended):
 
 
 class Batch(NamedTuple):
-    """A job that was run: where it began and ended, its entry, and how its requests ended."""
+    """A job that was run: where it began, its entry with its bytes, and how its requests ended."""
 
     number: int
     sum: str
     config: int
     entry: Optional[Entry]
+    packed: bytes
     ends: list[tuple[Asked, Ended]]
 
 
@@ -173,13 +174,15 @@ class Term:
         ran, last, text = self._run([asked[it] for it in places], rounds) if places else ([], self.number, "")
         ends += [(places[place], end) for place, end in ran]
         entry = self._entry([(asked[place], end) for place, end in ends], last, text)
-        if entry is not None and len(entry.packed()) > LARGEST and len(asked) > 1:
+        packed = entry.packed() if entry is not None else b""
+        if len(packed) > LARGEST and len(asked) > 1:
             raise _TooMuch
         if len(asked) == self.most:
             self.most = min(BATCH, self.most + max(1, self.most // 8))
         for place, end in ends:
             take(place, end)
-        self._put(Batch(self.number, self.sum, self.config.changed, entry, [(asked[it], end) for it, end in ends]))
+        told = [(asked[it], end) for it, end in ends]
+        self._put(Batch(self.number, self.sum, self.config.changed, entry, packed, told))
         if entry is not None:
             self.number, self.sum = entry.last, entry.sum
 
@@ -228,7 +231,7 @@ class Term:
             return None
         commits = [(it, end) for it, end in ends if isinstance(end, Commit) and self.number < end.number <= last]
         commits.sort(key=lambda it: it[1].number)
-        done = tuple(Done(it.more.who, it.request, end) for it, end in commits)
+        done = tuple(Done(it.more.who, message_of(it.request), end) for it, end in commits)
         return Entry(self.number, last, link(self.sum, text), self.created, self.config.programs, done, text)
 
     # putting
@@ -265,8 +268,8 @@ class Term:
             except _Moved:
                 self.is_fresh = False
                 self._throw_away(batch, "the programs or the slots were changed")
-            except (Deposed, EngineFault) as why:
-                self.over(str(why))
+            except Exception as why:  # (whatever it is, nothing is told, and the term is over)
+                self.over(f"{type(why).__name__}: {why}")
                 self._throw_away(batch, str(why))
             self.counts["put"] += time.monotonic() - begun
             with self.free:
@@ -284,11 +287,10 @@ class Term:
 
     def _settle(self, batch: Batch) -> None:
         """Has the engine take a job, or raises Deposed or _Moved where it wasn't taken and never will be."""
-        entry, deeds, packed = batch.entry, [], b""
+        entry, deeds = batch.entry, []
         if entry is not None:
-            packed = entry.packed()
             deeds = [
-                etcd.put(self.keys.log(entry.last), packed),
+                etcd.put(self.keys.log(entry.last), batch.packed),
                 etcd.put(self.keys.head, head_of(entry.last, entry.sum)),
             ]
         while True:
@@ -299,7 +301,7 @@ class Term:
                 raise Deposed(str(why)) from why
             except EngineFault:
                 held = None
-            if held or self._was_taken(entry, packed, batch.config):
+            if held or self._was_taken(entry, batch.packed, batch.config):
                 return
             if held is False:
                 raise Deposed(f"the engine refused what comes behind {batch.number}")
@@ -338,7 +340,9 @@ class Term:
                 self.counts["commits"] += len(batch.entry.done)
         for it, end in batch.ends:
             self.told(it, end)
-        self.wake()
+        if batch.entry is not None:
+            self.replica.offer(batch.entry)
+            self.wake()
 
     def _throw_away(self, batch: Batch, why: str) -> None:
         """A job wasn't taken: those that ended in it are asked again."""
