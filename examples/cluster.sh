@@ -57,7 +57,7 @@ node() {
 ask() {
     word=$1
     shift
-    "$cluster" "$word" --nodes "$nodes" --tls client --secret secret "$@"
+    "$cluster" "$word" --nodes "$nodes" --tls client --secret secret --seconds 300 "$@"
 }
 
 say 'one hand signs the certificates of three machines; clients know a secret'

@@ -81,7 +81,7 @@ class House:
         self.running: Dict[str, subprocess.Popen[bytes]] = {}
         self.members = ",".join(f"http://127.0.0.1:{self.base + it}" for it in (1, 2, 3))
         self.nodes = ",".join(self.at(it) for it in (1, 2, 3))
-        self.engine = Engine(self.members, None, 1.0)
+        self.engine = Engine(self.members, None, 5.0)
         self.more: List[str] = []
 
     def at(self, it: int) -> str:
@@ -100,19 +100,56 @@ class House:
         url, peer = f"http://127.0.0.1:{self.base + it}", f"http://127.0.0.1:{self.base + 70 + it}"
         all_peers = ",".join(f"e{k}=http://127.0.0.1:{self.base + 70 + k}" for k in (1, 2, 3))
         self.start(
-            f"e{it}", "etcd", "--name", f"e{it}", "--data-dir", self.disks[it].place / "etcd", "--listen-peer-urls",
-            f"http://127.0.0.1:{self.base + 10 + it}", "--initial-advertise-peer-urls", peer, "--listen-client-urls", url,
-            "--advertise-client-urls", url, "--initial-cluster", all_peers, "--initial-cluster-state", state,
-            "--log-level", "error", "--heartbeat-interval", "100", "--election-timeout", "800",
-            "--auto-compaction-mode", "revision", "--auto-compaction-retention", "5000",
+            f"e{it}",
+            "etcd",
+            "--name",
+            f"e{it}",
+            "--data-dir",
+            self.disks[it].place / "etcd",
+            "--listen-peer-urls",
+            f"http://127.0.0.1:{self.base + 10 + it}",
+            "--initial-advertise-peer-urls",
+            peer,
+            "--listen-client-urls",
+            url,
+            "--advertise-client-urls",
+            url,
+            "--initial-cluster",
+            all_peers,
+            "--initial-cluster-state",
+            state,
+            "--log-level",
+            "error",
+            "--heartbeat-interval",
+            "100",
+            "--election-timeout",
+            "800",
+            "--auto-compaction-mode",
+            "revision",
+            "--auto-compaction-retention",
+            "5000",
         )
 
     def start_node(self, it: int) -> None:
         """Begins a node. It asks the engine over proxies."""
         ends = ",".join(f"http://127.0.0.1:{self.base + 30 + 10 * it + k}" for k in (1, 2, 3))
         self.start(
-            f"n{it}", self.tool, "node", "--engine", ends, "--name", f"n{it}", "--folder", self.disks[it].place / "node",
-            "--listen", self.at(it), "--lease", self.lease, "--program", self.program, *self.more,
+            f"n{it}",
+            self.tool,
+            "node",
+            "--engine",
+            ends,
+            "--name",
+            f"n{it}",
+            "--folder",
+            self.disks[it].place / "node",
+            "--listen",
+            self.at(it),
+            "--lease",
+            self.lease,
+            "--program",
+            self.program,
+            *self.more,
         )
 
     def begin(self) -> None:
@@ -120,7 +157,13 @@ class House:
         proxy = TOP / "checks/storm/proxy.py"
         for it in (1, 2, 3):
             self.disks[it] = Disk(self.folder, f"disk{it}")
-            self.start(f"pe{it}", sys.executable, proxy, self.folder / f"cut-e{it}", f"{self.base + 70 + it}={self.base + 10 + it}")
+            self.start(
+                f"pe{it}",
+                sys.executable,
+                proxy,
+                self.folder / f"cut-e{it}",
+                f"{self.base + 70 + it}={self.base + 10 + it}",
+            )
             ways = [f"{self.base + 30 + 10 * it + k}={self.base + k}" for k in (1, 2, 3)]
             self.start(f"pn{it}", sys.executable, proxy, self.folder / f"cut-n{it}", *ways)
             self.start_member(it)

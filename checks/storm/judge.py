@@ -1,8 +1,7 @@
 """Judges what the storm left: the history that was read of the engine, what clients were told, and the nodes' files.
 
-It reads the engine's keys by itself, and takes from the package the bytes of a store, and how a ship text is followed and
-audited by the program.
-"""
+It reads the engine's keys by itself, and takes from the package the bytes of a store, and how a ship text is followed
+and audited by the program. """
 from __future__ import annotations
 
 import bisect
@@ -78,7 +77,9 @@ class Recorder(threading.Thread):
 class Judge:
     """All of it."""
 
-    def __init__(self, house: House, load: Load, recorder: Recorder, first: Dict[str, bytes], programs: Dict[str, str]) -> None:
+    def __init__(
+        self, house: House, load: Load, recorder: Recorder, first: Dict[str, bytes], programs: Dict[str, str]
+    ) -> None:
         self.house, self.load, self.recorder, self.first = house, load, recorder, first
         self.programs = {key: Front(text) for key, text in programs.items()}
         self.faults: List[str] = []
@@ -120,7 +121,9 @@ class Judge:
                 self.fault("history:", store, "has another sum at", raw["last"])
             rows += [Row(tuple(who), asked, number, out) for who, asked, number, _, out in raw["done"]]
             if [it[2] for it in raw["done"]] != [*range(raw["first"] + 1, raw["last"] + 1)]:
-                self.fault("history:", store, "an entry doesn't tell of each of its numbers", raw["first"], raw["last"])
+                self.fault(
+                    "history:", store, "an entry doesn't tell of each of its numbers", raw["first"], raw["last"]
+                )
             self._follow(raw["text"], states)
         self._nodes(store, states)
         self._audit(store)
@@ -157,11 +160,15 @@ class Judge:
     def _audit(self, store: str) -> None:
         """`romp801 audit` of the whole history."""
         entries = [Entry.of(it) for it in self.recorder.raw[store]]
-        found = audit(program.Program(self.house.program), lambda it: self.programs[it], self.first[store], entries, None)
+        found = audit(
+            program.Program(self.house.program), lambda it: self.programs[it], self.first[store], entries, None
+        )
         self.yes += found.yes
         if found.no:
             self.fault("audit:", store, found.no)
-        self.said.append(f"{store}: audit yes of {found.yes} commits in {len(entries)} entries, by {found.terms} terms")
+        self.said.append(
+            f"{store}: audit yes of {found.yes} commits in {len(entries)} entries, by {found.terms} terms"
+        )
 
     # what was told
 
@@ -173,7 +180,9 @@ class Judge:
         for row in rows:
             key = (row.who[1], row.who[3])
             if key in held:
-                self.fault("once:", store, key, row.asked, "is in the history twice:", held[key].number, "and", row.number)
+                self.fault(
+                    "once:", store, key, row.asked, "is in the history twice:", held[key].number, "and", row.number
+                )
             held[key] = row
         known: Set[Tuple[Any, ...]] = set()
         unknown: Set[Tuple[Any, ...]] = set()
@@ -184,7 +193,11 @@ class Judge:
             mine = held.get(key)
             if isinstance(it.end, Commit):
                 told += 1
-                if mine is None or (mine.number, mine.out) != (it.end.number, it.end.out.hex()) or mine.asked != _asked(it.asked):
+                if (
+                    mine is None
+                    or (mine.number, mine.out) != (it.end.number, it.end.out.hex())
+                    or mine.asked != _asked(it.asked)
+                ):
                     self.fault("once:", store, key, it.asked, "was told", it.end, "and the history has", mine)
             elif it.end is not None and mine is not None:
                 self.fault("once:", store, key, it.asked, "was told", it.end, "and the history has", mine)
@@ -195,9 +208,13 @@ class Judge:
         self.said.append(f"{store}: {told} acknowledged commits, {len(rows)} in the history; told: {counts}")
 
     def _times(self, store: str, noted: List[Noted], states: List[State]) -> None:
-        """Real time: what was told before another was begun has the lower number; what gave up had a cause, and what was
-        shown was so, at some number between."""
-        commits = [(it.begun, it.told, it.end.number) for it in noted if isinstance(it.end, Commit) and not it.who[1].startswith("once-")]
+        """Real time: what was told before another was begun has the lower number; what gave up had a cause, and what
+        was shown was so, at some number between."""
+        commits = [
+            (it.begun, it.told, it.end.number)
+            for it in noted
+            if isinstance(it.end, Commit) and not it.who[1].startswith("once-")
+        ]
         after, before = _told_before(commits), _begun_behind(commits, len(states))
         for it in noted:
             first, last = after(it.begun), min(before(it.told), len(states)) - 1
@@ -215,7 +232,9 @@ class Judge:
             first, last = after(shown.begun), before(shown.told)
             segment, offset, count = shown.range
             if not first <= shown.number < last:
-                self.fault("shown:", store, "at", shown.number, "where", first, "was told before, and", last, "begun behind")
+                self.fault(
+                    "shown:", store, "at", shown.number, "where", first, "was told before, and", last, "begun behind"
+                )
             if shown.number >= len(states) or _bytes(states[shown.number], segment, offset, count) != shown.data:
                 self.fault("shown:", store, segment, offset, "has other bytes at", shown.number)
 

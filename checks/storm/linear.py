@@ -3,9 +3,9 @@
 
 FILE has what clients did on registers, a line of JSON each: {"key", "kind", "first", "second", "begun", "told",
 "result"}. Each register must be linearizable: there is an order of what was done on it, in which no operation stands
-before one that had its answer before it was begun, and in which each has the answer that a register gives. `write` puts
-`second`; `swap` does so where the register has `first`, and says by 1 or 0 whether it did; `read` tells the value; a
-register is 0 at first. Of one with the answer null it isn't known when it was done, or whether a swap did.
+before one that had its answer before it was begun, and in which each has the answer that a register gives. `write`
+puts `second`; `swap` does so where the register has `first`, and says by 1 or 0 whether it did; `read` tells the
+value; a register is 0 at first. Of one with the answer null it isn't known when it was done, or whether a swap did.
 
 The search is that of Wing and Gong, with Lowe's memory of what was tried: from the first operation that may come next,
 back where none may.
@@ -108,7 +108,8 @@ def main() -> int:
                 parts[it["key"]].append(it)
     wrong = [key for key, operations in sorted(parts.items()) if not is_linear(operations)]
     count = sum(map(len, parts.values()))
-    print(f"{count} operations on {len(parts)} registers: {'not linearizable: ' + ', '.join(wrong) if wrong else 'linearizable'}")
+    verdict = f"not linearizable: {', '.join(wrong)}" if wrong else "linearizable"
+    print(f"{count} operations on {len(parts)} registers: {verdict}")
     return 1 if wrong else 0
 
 

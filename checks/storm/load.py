@@ -45,7 +45,8 @@ class Shown(NamedTuple):
 
 
 class Operation(NamedTuple):
-    """One on a register: by whom, of which kind, its values, when, and what came of it; None where that isn't known."""
+    """One on a register: by whom, of which kind, its values, when, and what came of it; None where that isn't
+    known."""
 
     key: str
     client: int
@@ -95,7 +96,16 @@ class Load:
                 self.busy += 1
             try:
                 work: Any = order.choice(
-                    (self.transfers, self.transfers, self.transfers, self.registers, self.registers, self.count, self.look, self.once)
+                    (
+                        self.transfers,
+                        self.transfers,
+                        self.transfers,
+                        self.registers,
+                        self.registers,
+                        self.count,
+                        self.look,
+                        self.once,
+                    )
                 )
                 work(cluster, order, place)
             except (Unanswered, TooLate) as failure:
@@ -109,7 +119,9 @@ class Load:
                 with self.lock:
                     self.busy -= 1
 
-    def ask(self, store: ClusterStore, requests: List[Request], guard: Dict[str, Any], name: Optional[str] = None) -> List[Optional[Ended]]:
+    def ask(
+        self, store: ClusterStore, requests: List[Request], guard: Dict[str, Any], name: Optional[str] = None
+    ) -> List[Optional[Ended]]:
         """Asks, and notes what is told."""
         begun = time.monotonic()
         try:
@@ -117,7 +129,8 @@ class Load:
         except (Unanswered, TooLate):
             with self.lock:
                 self.noted += [
-                    Noted(store.name, tuple(who), it, begun, time.monotonic(), None) for who, it in zip(store.asked, requests)
+                    Noted(store.name, tuple(who), it, begun, time.monotonic(), None)
+                    for who, it in zip(store.asked, requests)
                 ]
             raise
         told = time.monotonic()
@@ -184,7 +197,9 @@ class Load:
                 number, (data,) = store.look([[REGISTER_SEGMENT, at * 256, 4]])
                 result = int.from_bytes(data, "big")
                 with self.lock:
-                    self.shown.append(Shown(store.name, (REGISTER_SEGMENT, at * 256, 4), begun, time.monotonic(), number, data))
+                    self.shown.append(
+                        Shown(store.name, (REGISTER_SEGMENT, at * 256, 4), begun, time.monotonic(), number, data)
+                    )
             else:
                 compare = (Word(REGISTER_SEGMENT, at * 256, WHOLE, first),) if kind == "swap" else ()
                 it = Apply(compare, (Word(REGISTER_SEGMENT, at * 256, WHOLE, second),))
@@ -192,7 +207,9 @@ class Load:
                 result = int(end is not None and end.word == "commit")
         finally:
             with self.lock:
-                self.operations.append(Operation(f"{store.name}.{at}", place, kind, first, second, begun, time.monotonic(), result))
+                self.operations.append(
+                    Operation(f"{store.name}.{at}", place, kind, first, second, begun, time.monotonic(), result)
+                )
 
     def _recent(self, key: str) -> List[int]:
         """Values that a register had lately."""

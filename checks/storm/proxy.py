@@ -1,7 +1,7 @@
 #!/usr/bin/env python3
-"""Hands on connections, but not while a file is there: a network that is cut. `proxy.py CUT LISTEN=TARGET ..`, ports of
-127.0.0.1. CUT cuts all of them, CUT-LISTEN one. What was sent meanwhile arrives when the file has gone, also where who
-sent it has hung up."""
+"""Hands on connections, but not while a file is there: a network that is cut. `proxy.py CUT LISTEN=TARGET ..`, ports
+of 127.0.0.1. CUT cuts all of them, CUT-LISTEN one. What was sent meanwhile arrives when the file has gone, also where
+who sent it has hung up."""
 from __future__ import annotations
 
 import asyncio

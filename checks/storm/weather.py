@@ -22,8 +22,9 @@ from storm.load import ACCOUNT, SLOTS, Load, NotedOutbox
 
 RECORDS = [Records.of("account", "balance u4", segment=1, size=ACCOUNT, count=15)]
 KINDS = (
-    "primary primary standby leader member stop stop-alone cut cut stop-member both both-cut two-nodes no-majority late "
-    "old-reader deaf machine config all-nodes all wipe damage children stop-and-kill power power-all move move move-killed"
+    "primary primary standby leader member stop stop-alone cut cut stop-member both both-cut two-nodes no-majority late
+    " "old-reader deaf machine config all-nodes all wipe damage children stop-and-kill power power-all move move
+    move-killed"
 ).split()
 
 
@@ -35,7 +36,7 @@ class Weather:
         self.random = random.Random(seed)
         self.done: Dict[str, int] = collections.Counter()
         self.faults: List[str] = []
-        self.moves, self.programs = 0, ""
+        self.moves, self.slow, self.programs = 0, 0, ""
 
     def round(self, what: str) -> str:
         """One round; answers what it did."""
@@ -44,7 +45,12 @@ class Weather:
         first = self.primary(store) or self.random.choice((1, 2, 3))
         other = self.random.choice([it for it in (1, 2, 3) if it != first])
         work: Callable[[int, int, str], None] = getattr(self, "_" + what.replace("-", "_"))
-        work(first, other, store)
+        try:
+            work(first, other, store)
+        except EngineFault as fault:
+            # (the engine was too slow for whoever makes the weather: that is no fault of the cluster's)
+            self.slow += 1
+            return f"{what}: {store}, primary n{first}, cut short: {fault}"
         return f"{what}: {store}, primary n{first}"
 
     def primary(self, store: str) -> Optional[int]:
@@ -275,7 +281,8 @@ class Weather:
     def _move_one(self, slot: int, store: str, between: Callable[[], None]) -> None:
         """Moves a slot, where the store has room."""
         config = Config.read(self.house.engine, 30.0)
-        if sum(it.store == store for it in config.slots) >= 13 or config.slots[slot].to is not None and config.slots[slot].to[0] != store:  # type: ignore[index]
+        to = config.slots[slot].to
+        if sum(it.store == store for it in config.slots) >= 13 or to is not None and to[0] != store:
             return
         cluster = self.load.cluster()
         box = NotedOutbox(self.load, cluster)
@@ -354,5 +361,3 @@ class NotedMove(Move):
     def put(self, store: str, writes: List[Any], takes: Dict[str, Any]) -> List[Any]:
         """Asks, and notes."""
         return self.load.ask(self.cluster.store(store), writes, takes)
-
-

@@ -1,5 +1,5 @@
-"""How requests of many become jobs: a thread gathers what waits, runs it as one job after another, and hands on how each
-ended. A served store and a cluster's have it in common."""
+"""How requests of many become jobs: a thread gathers what waits, runs it as one job after another, and hands on how
+each ended. A served store and a cluster's have it in common."""
 from __future__ import annotations
 
 import collections

@@ -50,8 +50,8 @@ class Client:
 
 
 class Waiting:
-    """Who waits for which request, by its name. A name that waits is run once, whoever asks; `answer` is what is told of
-    an end, and `ask` hands on a request that nobody waits for."""
+    """Who waits for which request, by its name. A name that waits is run once, whoever asks; `answer` is what is told
+    of an end, and `ask` hands on a request that nobody waits for."""
 
     def __init__(
         self,
@@ -106,7 +106,12 @@ class Waiting:
                 client.room.release()
 
     async def wait(
-        self, client: Client, tag: Any, name: str, request: Request, known: Callable[[], Optional[Mapping[str, Any]]],
+        self,
+        client: Client,
+        tag: Any,
+        name: str,
+        request: Request,
+        known: Callable[[], Optional[Mapping[str, Any]]],
         more: Any = None,
     ) -> None:
         """A request under its name, which waits. Where nobody waits for it and its answer is known, that is told."""

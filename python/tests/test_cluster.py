@@ -1,4 +1,5 @@
-"""The parts of a cluster that want no engine: the table of who was answered, the history, the slots, and who is let in."""
+"""The parts of a cluster that want no engine: the table of who was answered, the history, the slots, and who is let
+in."""
 from __future__ import annotations
 
 import unittest
@@ -101,8 +102,17 @@ class Tables(unittest.TestCase):
 
     def test_nobody(self) -> None:
         """What is no request's."""
-        for raw in ([0, "a", 0], [0, "a", 1, 0], [-1, "a", 0, 0], [0, "", 0, 0], [0, "a" * 101, 0, 0], [0, "a", 0, 4096],
-                    [True, "a", 0, 0], [0, 7, 0, 0], 5):
+        for raw in (
+            [0, "a", 0],
+            [0, "a", 1, 0],
+            [-1, "a", 0, 0],
+            [0, "", 0, 0],
+            [0, "a" * 101, 0, 0],
+            [0, "a", 0, 4096],
+            [True, "a", 0, 0],
+            [0, 7, 0, 0],
+            5,
+        ):
             with self.assertRaises((ValueError, TypeError)):
                 Who.of(raw)
 
@@ -176,12 +186,15 @@ class History(Case):
         """An entry is read as it was put."""
         asked = (Run("add", (1, 2)), Apply((Word(1, 0, 1, 1),), (Word(1, 4, 2, 2),)))
         done = (
-            Done(who("a", 0), message_of(asked[0]), Commit(1, 6, 3, b"\x01")), Done(who("b", 1), message_of(asked[1]), Commit(2, 7, 9, b""))
+            Done(who("a", 0), message_of(asked[0]), Commit(1, 6, 3, b"\x01")),
+            Done(who("b", 1), message_of(asked[1]), Commit(2, 7, 9, b"")),
         )
         entry = Entry(5, 7, link("", "t"), 12, "p", done, "t")
         found = Entry.of(entry.packed())
         self.assertEqual([it._replace(asked={}) for it in found.done], [it._replace(asked={}) for it in done])
-        self.assertEqual((found._replace(done=()), tuple(it.request for it in found.done)), (entry._replace(done=()), asked))
+        self.assertEqual(
+            (found._replace(done=()), tuple(it.request for it in found.done)), (entry._replace(done=()), asked)
+        )
         for data in (b"", entry.packed()[:-5], b"x" * 40):
             with self.assertRaises(Failure):
                 Entry.of(data)

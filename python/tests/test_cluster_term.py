@@ -42,7 +42,9 @@ ADD, NO = Run("add", (256, 5)), Run("no")
 class Primary:
     """A node that is a store's primary, and what it told."""
 
-    def __init__(self, engine: Memory, romp801: program.Program, name: str, folder: str, takes_over: bool = True) -> None:
+    def __init__(
+        self, engine: Memory, romp801: program.Program, name: str, folder: str, takes_over: bool = True
+    ) -> None:
         os.makedirs(folder, exist_ok=True)
         self.engine, self.keys = engine, Keys(name)
         self.replica = Replica(engine, romp801, name, folder, Config.read(engine).cluster, lambda said: None)
@@ -55,8 +57,13 @@ class Primary:
         self.untold: List[str] = []
         created = of(engine.get(self.keys.primary)).created
         self.term = Term(
-            self.replica, engine, created, lambda: True, lambda asked, end: self.told.append((asked.name, end)),
-            lambda asked, failure: self.untold.extend(it.name for it in asked), self.follow,
+            self.replica,
+            engine,
+            created,
+            lambda: True,
+            lambda asked, end: self.told.append((asked.name, end)),
+            lambda asked, failure: self.untold.extend(it.name for it in asked),
+            self.follow,
         )
         self.thread = threading.Thread(target=self.term.put_loop, daemon=True)
         self.thread.start()
@@ -66,7 +73,9 @@ class Primary:
         while self.replica.follow():
             pass
 
-    def start(self, *requests: Request, session: str = "a", at: int = 0, guard: Optional[Dict[str, Any]] = None) -> None:
+    def start(
+        self, *requests: Request, session: str = "a", at: int = 0, guard: Optional[Dict[str, Any]] = None
+    ) -> None:
         """Runs requests; they may be being put when this ends."""
         asked = [
             Asked(f"{session}.{at + place}", it, Order(Who(0, session, at, at + place), guard or {}))
@@ -74,7 +83,9 @@ class Primary:
         ]
         self.term.run(asked, 1, lambda place, end: None)
 
-    def ask(self, *requests: Request, session: str = "a", at: int = 0, guard: Optional[Dict[str, Any]] = None) -> List[str]:
+    def ask(
+        self, *requests: Request, session: str = "a", at: int = 0, guard: Optional[Dict[str, Any]] = None
+    ) -> List[str]:
         """The same to the end; answers what was told of them."""
         self.start(*requests, session=session, at=at, guard=guard)
         self.term._wait_settled()
@@ -373,7 +384,10 @@ class Bank(Cases):
             self.new("new2", paths[name], "65536", "1", "1f", "2", "1f")
         setup.make(self.engine, text, paths, 3)
         self.stores = {name: Near(self.primary(f"p-{name}", name)) for name in paths}
-        table = lambda _: {"table": [list(it) for it in Config.read(self.engine).slots], "stores": ["a", "b", "c"]}  # noqa: E731
+        table = lambda _: {
+            "table": [list(it) for it in Config.read(self.engine).slots],
+            "stores": ["a", "b", "c"],
+        }  # noqa: E731
         nodes = SimpleNamespace(any=table)
         self.cluster = cast(Cluster, SimpleNamespace(nodes=nodes, store=lambda name: self.stores[name]))
 
@@ -437,7 +451,9 @@ class Near:
         """The bytes of each segment."""
         return dict(self.primary.term.content.segments)
 
-    def tried(self, requests: List[Request], name: Optional[str] = None, guard: Optional[Dict[str, Any]] = None) -> List[Optional[Ended]]:
+    def tried(
+        self, requests: List[Request], name: Optional[str] = None, guard: Optional[Dict[str, Any]] = None
+    ) -> List[Optional[Ended]]:
         """Runs requests to their ends."""
         at, self.count = self.count, self.count + len(requests)
         for _ in range(2):
@@ -518,7 +534,15 @@ class Begins(Cases):
         replica = Replica(self.engine, self.program, "a", folder, "c", lambda said: None)
         replica.install()
         with self.assertRaises(Deposed):
-            Term(replica, self.engine, 1, lambda: False, lambda asked, end: None, lambda asked, failure: None, lambda: None)
+            Term(
+                replica,
+                self.engine,
+                1,
+                lambda: False,
+                lambda asked, end: None,
+                lambda asked, failure: None,
+                lambda: None,
+            )
 
 
 if __name__ == "__main__":

@@ -6,9 +6,11 @@ import itertools
 import os
 import random
 import unittest
-from typing import Any, List, Optional
+from typing import Any, Dict, List, Optional
 
-JUDGE = os.path.join(os.path.dirname(os.path.dirname(os.path.dirname(os.path.abspath(__file__)))), "checks/storm/linear.py")
+JUDGE = os.path.join(
+    os.path.dirname(os.path.dirname(os.path.dirname(os.path.abspath(__file__)))), "checks/storm/linear.py"
+)
 
 
 def judge() -> Any:
@@ -24,8 +26,8 @@ def judge() -> Any:
 
 def answer(order: random.Random, kind: str) -> Optional[int]:
     """An answer that an operation may have."""
-    choices: List[Optional[int]] = {"read": [0, 1, 2], "write": [1, 1, None], "swap": [0, 1, None]}[kind]  # type: ignore[assignment]
-    return order.choice(choices)
+    choices: Dict[str, List[Optional[int]]] = {"read": [0, 1, 2], "write": [1, 1, None], "swap": [0, 1, None]}
+    return order.choice(choices[kind])
 
 
 class Linear(unittest.TestCase):
@@ -41,7 +43,10 @@ class Linear(unittest.TestCase):
             """Whether each has its answer in this order, which keeps their times."""
             value = 0
             for at, it in enumerate(order):
-                if any(operations[later]["result"] is not None and operations[later]["told"] < operations[it]["begun"] for later in order[at:]):
+                if any(
+                    operations[later]["result"] is not None and operations[later]["told"] < operations[it]["begun"]
+                    for later in order[at:]
+                ):
                     return False
                 holds, value = linear.step(value, operations[it])
                 if not holds:
@@ -53,10 +58,16 @@ class Linear(unittest.TestCase):
             operations = []
             for _ in range(order.randrange(1, 6)):
                 begun, kind = order.random(), order.choice(("read", "write", "swap"))
-                operations.append({
-                    "kind": kind, "first": order.randrange(3), "second": order.randrange(3), "begun": begun,
-                    "told": begun + order.random() * 0.4, "result": answer(order, kind),
-                })
+                operations.append(
+                    {
+                        "kind": kind,
+                        "first": order.randrange(3),
+                        "second": order.randrange(3),
+                        "begun": begun,
+                        "told": begun + order.random() * 0.4,
+                        "result": answer(order, kind),
+                    }
+                )
             wanted = any(is_fine(operations, it) for it in itertools.permutations(range(len(operations))))
             self.assertEqual(linear.is_linear(operations), wanted, operations)
             found[wanted] += 1

@@ -28,9 +28,14 @@ class Audited(NamedTuple):
 
 
 def audit(
-    romp801: program.Program, fronts: Callable[[str], Front], opening: bytes, entries: Iterable[Entry], total: Optional[str]
+    romp801: program.Program,
+    fronts: Callable[[str], Front],
+    opening: bytes,
+    entries: Iterable[Entry],
+    total: Optional[str],
 ) -> Audited:
-    """Audits entries that go on from a store, with the sum there where it is known, in parts that a job has room for."""
+    """Audits entries that go on from a store, with the sum there where it is known, in parts that a job has room
+    for."""
     yes, number = 0, Store(opening).number
     terms: set[int] = set()
     part: list[Entry] = []
@@ -104,7 +109,9 @@ def entries_of(engine: Engine, keys: Keys, number: int, last: int) -> Iterable[E
                 return
 
 
-def audit_store(romp801: program.Program, engine: Engine, name: str, opening: Optional[bytes]) -> tuple[int, int, Audited]:
+def audit_store(
+    romp801: program.Program, engine: Engine, name: str, opening: Optional[bytes]
+) -> tuple[int, int, Audited]:
     """Audits what the engine keeps of a store, from its image on or from another store; answers from which number to
     which, and what came of it."""
     from romp801.cluster.term import front_of

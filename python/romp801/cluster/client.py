@@ -155,7 +155,9 @@ class ClusterStore(Store):
         """Blocks of the store, all of one moment, and its number."""
         return self.blocks(keys, {})
 
-    def blocks(self, keys: list[tuple[int, int]], guard: Mapping[str, Any]) -> tuple[int, dict[tuple[int, int], bytes]]:
+    def blocks(
+        self, keys: list[tuple[int, int]], guard: Mapping[str, Any]
+    ) -> tuple[int, dict[tuple[int, int], bytes]]:
         """The same, of slots that are here."""
         wanted = Moment.ranges(keys, self.segments)
         if sum(count for _, _, count in wanted) > READ:
@@ -182,9 +184,7 @@ class ClusterStore(Store):
         ticket, place = name.rsplit(".", 1)
         return end_told(self._exchange([{"answered": [*_ticket(ticket), 0, int(place)]}])[0]["end"])
 
-    def ask(
-        self, requests: list[Request], name: Optional[str] = None, guard: Mapping[str, Any] = {}
-    ) -> list[Ended]:
+    def ask(self, requests: list[Request], name: Optional[str] = None, guard: Mapping[str, Any] = {}) -> list[Ended]:
         """Runs requests to their ends, each once. `name` is a ticket, under which they are run once whoever asks
         again; `guard` names slots that they need here, and where one isn't Moved is raised."""
         found = self.tried(requests, name, guard)

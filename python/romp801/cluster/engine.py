@@ -1,9 +1,8 @@
 """A client of etcd by its gateway for HTTP and JSON (/v3/..): keys, transactions, leases and a watch.
 
 Keys and values are bytes. A call that only reads is tried at each member in turn until its time is over. One that
-writes is sent once: where nothing was sent (no connection) the next member is tried, and where it isn't known what came
-of it `Unknown` is raised; who calls then reads what stands.
-"""
+writes is sent once: where nothing was sent (no connection) the next member is tried, and where it isn't known what
+came of it `Unknown` is raised; who calls then reads what stands. """
 from __future__ import annotations
 
 import base64

@@ -33,8 +33,8 @@ class Done(NamedTuple):
 
 
 class Entry(NamedTuple):
-    """The numbers after `first` up to `last`: the sum behind them, the primary's term, the sum of the programs, who asked
-    for what, and the ship text."""
+    """The numbers after `first` up to `last`: the sum behind them, the primary's term, the sum of the programs, who
+    asked for what, and the ship text."""
 
     first: int
     last: int

@@ -33,7 +33,14 @@ class Image(NamedTuple):
         for place in range(0, len(data), PIECE):
             engine.put(prefix + b"/%04d" % (place // PIECE), data[place : place + PIECE])
         total = hashlib.sha256(data).hexdigest()
-        snap = {"number": self.number, "sum": self.sum, "at": at, "table": len(table), "sha256": total, "bytes": len(data)}
+        snap = {
+            "number": self.number,
+            "sum": self.sum,
+            "at": at,
+            "table": len(table),
+            "sha256": total,
+            "bytes": len(data),
+        }
         return prefix, json.dumps(snap).encode()
 
     @classmethod
@@ -46,8 +53,10 @@ class Image(NamedTuple):
         prefix = keys.images + told["at"].encode() + b"/"
         # (a piece at a time: an answer has its bounds too)
         data = b"".join(
-            it.value for place in range(0, told["bytes"], PIECE)
-            for it in [engine.get(prefix + b"%04d" % (place // PIECE))] if it is not None
+            it.value
+            for place in range(0, told["bytes"], PIECE)
+            for it in [engine.get(prefix + b"%04d" % (place // PIECE))]
+            if it is not None
         )
         if hashlib.sha256(data).hexdigest() != told["sha256"]:
             raise EngineFault(f"the image at {told['number']} was replaced while it was read")
@@ -56,7 +65,8 @@ class Image(NamedTuple):
 
 
 def replaces(keys: Keys, old: Item, prefix: bytes, snap: bytes, until: int) -> tuple[list[Part], list[Part]]:
-    """What makes pieces the image in the place of an old one, and removes its pieces and the entries up to a number."""
+    """What makes pieces the image in the place of an old one, and removes its pieces and the entries up to a
+    number."""
     deeds = [
         etcd.put(keys.snap, snap),
         etcd.remove(keys.images, prefix),

@@ -156,7 +156,8 @@ class Keeper:
         if item is not None and self._was_mine(item.value):
             # (an earlier process of this node has ended, since this one has its folder: its lease needn't run out)
             self.engine.transaction(
-                [etcd.is_created(self.keys.primary, item.created)], [etcd.remove(self.keys.primary, self.keys.primary + b"\0")]
+                [etcd.is_created(self.keys.primary, item.created)],
+                [etcd.remove(self.keys.primary, self.keys.primary + b"\0")],
             )
             item = self.engine.get(self.keys.primary)
         if item is None:
@@ -169,7 +170,8 @@ class Keeper:
             told = {"name": self.node.options.name, "at": self.node.options.listen, "token": self.node.token}
             with contextlib.suppress(etcd.Unknown):
                 self.engine.transaction(
-                    [etcd.is_created(self.keys.primary, 0)], [etcd.put(self.keys.primary, json.dumps(told).encode(), lease)]
+                    [etcd.is_created(self.keys.primary, 0)],
+                    [etcd.put(self.keys.primary, json.dumps(told).encode(), lease)],
                 )
             item = self.engine.get(self.keys.primary)
             if item is None:
@@ -204,7 +206,10 @@ class Keeper:
         waiting: Waiting
         serving: Serving
         term = Term(
-            self.replica, self.engine, created, lambda: self.node.lease == lease,
+            self.replica,
+            self.engine,
+            created,
+            lambda: self.node.lease == lease,
             lambda asked, end: waiting.told(asked.name, end),
             lambda asked, failure: waiting.untold(asked, failure),
             self.wake_follow.set,
@@ -232,9 +237,12 @@ class Keeper:
     def status(self) -> dict[str, Any]:
         """How far it is, and what it does."""
         serving = self.serving
-        found: dict[str, Any] = {"number": self.replica.number, "saved": self.replica.saved, "images": self.replica.images}
+        found: dict[str, Any] = {
+            "number": self.replica.number,
+            "saved": self.replica.saved,
+            "images": self.replica.images,
+        }
         found["primary"] = self.primary["name"] if self.primary else None
         if serving is not None:
             found["serves"] = dict(serving.term.counts)
         return found
-

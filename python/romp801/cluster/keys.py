@@ -42,8 +42,8 @@ def store_of(key: bytes) -> str:
 
 
 class Slot(NamedTuple):
-    """Where a slot's records are: the store, the place among its places, how often the slot was moved, and, while it is
-    moved and its records are frozen, where to."""
+    """Where a slot's records are: the store, the place among its places, how often the slot was moved, and, while it
+    is moved and its records are frozen, where to."""
 
     store: str
     place: int
@@ -83,15 +83,18 @@ class Config(NamedTuple):
 
     def has(self, store: str, guard: Mapping[str, Any]) -> bool:
         """Whether a store has the slots that a message names, each with the place and the turn that it knows: `slots`
-        are served, and `frozen` and `filled` are those that are moved, at the store that gives and the one that takes."""
+        are served, and `frozen` and `filled` are those that are moved, at the store that gives and the one that takes.
+        """
         if not guard:
             return True
         served = all(self._slot(it) == Slot(store, it[1], it[2]) for it in guard.get("slots", ()))
         frozen = (self._slot(it) for it in guard.get("frozen", ()))
         gives = all(slot is not None and slot.store == store and slot.to is not None for slot in frozen)
         filled = guard.get("filled", ())
-        takes = all(slot is not None and slot.to == (store, it[1]) and slot.turn == it[2]
-                    for it, slot in ((it, self._slot(it)) for it in filled))
+        takes = all(
+            slot is not None and slot.to == (store, it[1]) and slot.turn == it[2]
+            for it, slot in ((it, self._slot(it)) for it in filled)
+        )
         return served and gives and takes
 
     def _slot(self, it: Any) -> Optional[Slot]:

@@ -1,9 +1,8 @@
 """A node's copy of a store: it changes by `follow` alone, with texts that are in the engine.
 
-It lies in memory and begins with the engine's image. What the node's file has is never taken for the store: the file is
-saved from the copy, whole and by a rename, and beside it stands of which history and number it is. A file that isn't of
-the engine's history, as where the engine was put back to a backup, is set aside and not written over.
-"""
+It lies in memory and begins with the engine's image. What the node's file has is never taken for the store: the file
+is saved from the copy, whole and by a rename, and beside it stands of which history and number it is. A file that
+isn't of the engine's history, as where the engine was put back to a backup, is set aside and not written over. """
 from __future__ import annotations
 
 import collections
@@ -36,7 +35,13 @@ class Replica:
     """The copy. `number` and `sum` say how far it is in the history, and `table` who was answered there."""
 
     def __init__(
-        self, engine: Engine, romp801: program.Program, name: str, folder: str, cluster: str, say: Callable[[str], None]
+        self,
+        engine: Engine,
+        romp801: program.Program,
+        name: str,
+        folder: str,
+        cluster: str,
+        say: Callable[[str], None],
     ) -> None:
         self.engine, self.program, self.name, self.keys = engine, romp801, name, Keys(name)
         self.path, self.cluster, self.say = os.path.join(folder, name), cluster, say

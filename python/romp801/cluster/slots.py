@@ -90,7 +90,6 @@ class Move:
             if found != data:
                 raise Failure(f"{slot.to[0]} has other records of slot {self.slot} than {slot.store}")
 
-
     def put(self, store: str, writes: list[Request], takes: dict[str, Any]) -> list[Optional[Ended]]:
         """Asks a store for writes."""
         return self.cluster.store(store).tried(writes, None, takes)

@@ -27,8 +27,8 @@ AHEAD = 4096
 
 
 class Who(NamedTuple):
-    """Whose request it is: its session, and the store's number when that began; from which request on the session has no
-    answer, and which one this is."""
+    """Whose request it is: its session, and the store's number when that began; from which request on the session has
+    no answer, and which one this is."""
 
     since: int
     session: str

@@ -2,9 +2,8 @@
 
 The primary runs each job on a working copy in memory, and puts its ship text by one transaction of the engine, which
 holds only where the node is still the primary, the history still ends where the job began, and the programs and slots
-are those that it knew. Only then clients are answered. While a text is put the next job runs behind it; where the first
-isn't taken, neither is the second.
-"""
+are those that it knew. Only then clients are answered. While a text is put the next job runs behind it; where the
+first isn't taken, neither is the second. """
 from __future__ import annotations
 
 import threading
@@ -277,8 +276,8 @@ class Term:
                 self.free.notify_all()
 
     def compares(self, batch: Batch) -> list[Part]:
-        """What must hold for a job to be taken: this node is the primary, the history ends where the job began, and the
-        programs and slots are those that it knew."""
+        """What must hold for a job to be taken: this node is the primary, the history ends where the job began, and
+        the programs and slots are those that it knew."""
         return [
             etcd.is_created(self.keys.primary, self.created),
             etcd.is_value(self.keys.head, head_of(batch.number, batch.sum)),
