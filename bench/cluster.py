@@ -1,9 +1,9 @@
 #!/usr/bin/env python3
 """Commits a second and latencies of a cluster with one and three members of etcd on this machine, beside etcd's own
-puts, etcd that holds the same accounts by its own transactions, `run` on a file, and PostgreSQL with a synchronous
-standby where there is one: `bench/cluster.py PROGRAM [--seconds S] [--rounds N] [--only WORD]`. Rounds of all rows in
-turns; the best and the middle one are printed. With `--only failover` it measures how long a store has no primary, and
-with `--only behind` how far nodes are behind. All members sync on one disk."""
+puts, etcd that holds the same accounts by its own transactions, and `run` on a file: `bench/cluster.py PROGRAM
+[--seconds S] [--rounds N] [--only WORD]`. Rounds of all rows in turns; the best and the middle one are printed. With
+`--only failover` it measures how long a store has no primary, and with `--only behind` how far nodes are behind. All
+members sync on one disk."""
 from __future__ import annotations
 
 import argparse

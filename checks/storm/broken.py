@@ -1,5 +1,5 @@
-"""Wrong bodies of the cluster, which its checks must find: in which file of python/romp801/cluster, what is replaced
-by what. They are made in a copy. `RIGHT` are changes by which nothing goes wrong."""
+"""Wrong bodies of the cluster, which its checks must find: in which file of python/romp801/cluster, what is replaced by
+what. They are made in a copy. `RIGHT` are changes by which nothing goes wrong."""
 from __future__ import annotations
 
 import pathlib
@@ -40,9 +40,9 @@ WRONG: Dict[str, List[Edit]] = {
     # does)
     "reads-unfenced": [
         (
-            READER, "        held, (head, item) = term.engine.look(\n            [etcd.is_created(term.keys.primary,
-            term.created)], term.keys.head, CONFIG\n        )\n", "        number, config = term.content.number,
-            term.config\n",
+            READER,
+            "        held, (head, item) = term.engine.look(\n            [etcd.is_created(term.keys.primary, term.created)], term.keys.head, CONFIG\n        )\n",
+            "        number, config = term.content.number, term.config\n",
         ),
         (
             READER,
@@ -70,9 +70,10 @@ WRONG: Dict[str, List[Edit]] = {
     ],
     "lying-steps": [
         (
-            TERM, "        done = tuple(Done(it.more.who, message_of(it.request), end) for it, end in commits)\n", "
-            done = tuple(Done(it.more.who, message_of(it.request), Commit(1, end.number, end.steps + (end.number ==
-            50), end.out))" " for it, end in commits)\n",
+            TERM,
+            "        done = tuple(Done(it.more.who, message_of(it.request), end) for it, end in commits)\n",
+            "        done = tuple(Done(it.more.who, message_of(it.request), Commit(1, end.number, end.steps + (end.number == 50), end.out))"
+            " for it, end in commits)\n",
         )
     ],
     "lying-number": [
