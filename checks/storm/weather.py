@@ -22,9 +22,9 @@ from storm.load import ACCOUNT, SLOTS, Load, NotedOutbox
 
 RECORDS = [Records.of("account", "balance u4", segment=1, size=ACCOUNT, count=15)]
 KINDS = (
-    "primary primary standby leader member stop stop-alone cut cut stop-member both both-cut two-nodes no-majority late
-    " "old-reader deaf machine config all-nodes all wipe damage children stop-and-kill power power-all move move
-    move-killed"
+    "primary primary standby leader member stop stop-alone cut cut stop-member both both-cut two-nodes no-majority "
+    "late old-reader deaf machine config all-nodes all wipe damage children stop-and-kill power power-all move move "
+    "move-killed"
 ).split()
 
 
