@@ -1,7 +1,8 @@
 """Judges what the storm left: the history that was read of the engine, what clients were told, and the nodes' files.
 
 It reads the engine's keys by itself, and takes from the package the bytes of a store, and how a ship text is followed
-and audited by the program. """
+and audited by the program.
+"""
 from __future__ import annotations
 
 import bisect

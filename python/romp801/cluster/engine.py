@@ -2,7 +2,8 @@
 
 Keys and values are bytes. A call that only reads is tried at each member in turn until its time is over. One that
 writes is sent once: where nothing was sent (no connection) the next member is tried, and where it isn't known what
-came of it `Unknown` is raised; who calls then reads what stands. """
+came of it `Unknown` is raised; who calls then reads what stands.
+"""
 from __future__ import annotations
 
 import base64

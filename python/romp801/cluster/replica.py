@@ -2,7 +2,8 @@
 
 It lies in memory and begins with the engine's image. What the node's file has is never taken for the store: the file
 is saved from the copy, whole and by a rename, and beside it stands of which history and number it is. A file that
-isn't of the engine's history, as where the engine was put back to a backup, is set aside and not written over. """
+isn't of the engine's history, as where the engine was put back to a backup, is set aside and not written over.
+"""
 from __future__ import annotations
 
 import collections

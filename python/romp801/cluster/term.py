@@ -3,7 +3,8 @@
 The primary runs each job on a working copy in memory, and puts its ship text by one transaction of the engine, which
 holds only where the node is still the primary, the history still ends where the job began, and the programs and slots
 are those that it knew. Only then clients are answered. While a text is put the next job runs behind it; where the
-first isn't taken, neither is the second. """
+first isn't taken, neither is the second.
+"""
 from __future__ import annotations
 
 import threading
