@@ -28,6 +28,10 @@ KINDS = (
 ).split()
 
 
+class Stopped(Exception):
+    """Who moves a slot is killed."""
+
+
 class Weather:
     """Rounds."""
 
@@ -270,11 +274,11 @@ class Weather:
 
         def stop() -> None:
             """Ends the first call."""
-            raise InterruptedError
+            raise Stopped
 
         try:
             self._move_one(slot, store, stop)
-        except InterruptedError:
+        except Stopped:
             self._wait(0, 1)
             self._move_one(slot, store, lambda: None)
 
