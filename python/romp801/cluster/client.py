@@ -60,6 +60,10 @@ class Nodes:
         if found is None:
             host, port = address(at)
             link = socket.create_connection((host, port), self.patience)
+            if link.getsockname() == link.getpeername():
+                # (where nobody listens at a port that the system hands out, a connection may meet itself)
+                link.close()
+                raise ConnectionRefusedError(f"nobody listens at {at}")
             link.setsockopt(socket.IPPROTO_TCP, socket.TCP_NODELAY, 1)
             if self.tls is not None:
                 link = self.tls.wrap_socket(link, server_hostname=host)
