@@ -53,6 +53,10 @@ _romp801_script() {
         options='--help --copy --wait --program'
         values='--wait'
         ;;
+    cluster | romp801-cluster)
+        options='--help --engine --nodes --tls --secret --programs --slots --name --folder --listen --lease --save --image-every --slack --rows --outbox --seconds --from --to --program'
+        values='--engine --nodes --slots --name --listen --lease --save --image-every --slack --rows --seconds'
+        ;;
     compile | romp801-compile)
         options='--help --job --frames --include --define --records --host'
         values='--frames --define'
@@ -119,6 +123,9 @@ complete -o filenames -F _romp801_script romp801-addresses \
     romp801-catch-up \
     tools/catch-up \
     ./tools/catch-up \
+    romp801-cluster \
+    tools/cluster \
+    ./tools/cluster \
     romp801-compile \
     tools/compile \
     ./tools/compile \

@@ -14,8 +14,6 @@ under that name, also over kills.
 from __future__ import annotations
 
 import contextlib
-import json
-import select
 import socket
 import stat
 import time
@@ -38,9 +36,11 @@ from romp801.request import (
     Word,
     is_conflict,
     is_final,
+    message_of,
     run_job,
     words_at,
 )
+from romp801.wire import Wire
 
 ATTEMPTS = 1000
 BLOCK = 256
@@ -375,10 +375,21 @@ class FileStore(Store):
             self.ledger = None
 
 
+class Blocks(Protocol):
+    """A store that is asked for blocks."""
+
+    @property
+    def segments(self) -> Mapping[int, int]:
+        """The bytes of each segment."""
+
+    def read(self, keys: list[tuple[int, int]]) -> tuple[int, dict[tuple[int, int], bytes]]:
+        """Blocks of the store, all of one moment, and its number."""
+
+
 class Moment:
     """Where a transaction over a served store reads: blocks of bytes, all of one moment."""
 
-    def __init__(self, store: ServedStore) -> None:
+    def __init__(self, store: Blocks) -> None:
         self.store = store
         self.number: Optional[int] = None
         self.blocks: dict[tuple[int, int], bytes] = {}
@@ -397,6 +408,11 @@ class Moment:
             self._fetch(missing)
         return b"".join(self.blocks[it] for it in keys)[offset - first : offset - first + count]
 
+    @staticmethod
+    def ranges(keys: list[tuple[int, int]], segments: Mapping[int, int]) -> list[list[int]]:
+        """The ranges of blocks."""
+        return [[segment, at, min(BLOCK, segments[segment] - at)] for segment, at in keys]
+
     def _fetch(self, keys: list[tuple[int, int]]) -> None:
         """Reads blocks, and those before anew where another moment has come."""
         number, found = self.store.read(keys)
@@ -414,12 +430,15 @@ class ServedStore(Store):
 
     def __init__(self, path: str, seconds: float = 60.0) -> None:
         self.path, self.seconds = path, seconds
-        self.link: Optional[socket.socket] = None
-        self.left = b""
+        self.wire: Optional[Wire] = None
         self.session = uuid.uuid4().hex
         self.asked = 0
-        self.segments: dict[int, int] = {}
-        self.segments = {int(it): size for it, size in self._one({"stat": True})["segments"].items()}
+        self._segments = {int(it): size for it, size in self._one({"stat": True})["segments"].items()}
+
+    @property
+    def segments(self) -> Mapping[int, int]:
+        """The bytes of each segment."""
+        return self._segments
 
     def number(self) -> int:
         """The store's number: how many commits it has had."""
@@ -431,7 +450,7 @@ class ServedStore(Store):
 
     def read(self, keys: list[tuple[int, int]]) -> tuple[int, dict[tuple[int, int], bytes]]:
         """Blocks of the store, all of one moment, and its number."""
-        wanted = [[segment, at, min(BLOCK, self.segments[segment] - at)] for segment, at in keys]
+        wanted = Moment.ranges(keys, self.segments)
         if sum(count for _, _, count in wanted) > READ:
             raise mistaken(f"a transaction over a served store reads at most {READ} bytes")
         answer = self._one({"read": wanted})
@@ -439,7 +458,7 @@ class ServedStore(Store):
 
     def answered(self, name: str) -> Optional[Ended]:
         """How a request under this name ended, or None."""
-        return _end(self._one({"answered": name})["end"])
+        return end_told(self._one({"answered": name})["end"])
 
     def ask(self, requests: list[Request], name: Optional[str] = None) -> list[Ended]:
         """Runs requests to their ends. Under a name each is answered once for ever."""
@@ -448,9 +467,8 @@ class ServedStore(Store):
             name = f"{self.session}.{self.asked}"
         messages: list[dict[str, Any]] = []
         for place, it in enumerate(requests):
-            what = {"run": [it.name, *it.values]} if isinstance(it, Run) else it._asdict()
-            messages.append({"name": f"{name}.{place}", **what})
-        return [end for end in (_end(it["end"]) for it in self._exchange(messages)) if end is not None]
+            messages.append({"name": f"{name}.{place}", **message_of(it)})
+        return [end for end in (end_told(it["end"]) for it in self._exchange(messages)) if end is not None]
 
     def _one(self, message: dict[str, Any]) -> dict[str, Any]:
         """The answer of a message."""
@@ -480,44 +498,27 @@ class ServedStore(Store):
         return [answers[place] for place in range(len(messages))]
 
     def _send(self, messages: dict[int, dict[str, Any]], answers: dict[int, dict[str, Any]]) -> None:
-        """Sends messages and takes their answers. It reads while it sends: both may be long."""
-        if self.link is None:
-            self.left = b""
-            self.link = socket.socket(socket.AF_UNIX, socket.SOCK_STREAM)
-            self.link.connect(self.path)
-            self.link.setblocking(False)
-        out = b"".join(json.dumps({"tag": place, **it}).encode() + b"\n" for place, it in messages.items())
-        waiting = set(messages)
-        while waiting:
-            can_read, can_write, _ = select.select([self.link], [self.link] if out else [], [], self.seconds)
-            if not can_read and not can_write:
-                raise TimeoutError(f"no answer in {self.seconds:g} seconds")
-            if can_write:
-                out = out[self.link.send(out[: 1 << 16]) :]
-            for answer in self._answers() if can_read else ():
-                if answer["tag"] is None:
-                    raise Failure(str(answer.get("error") or answer.get("again")))
-                waiting.discard(answer["tag"])
-                if "again" not in answer:
-                    answers[answer["tag"]] = answer
-
-    def _answers(self) -> Iterator[dict[str, Any]]:
-        """The whole lines that came; raises ConnectionError where the server has gone."""
-        assert self.link is not None
-        data = self.link.recv(1 << 16)
-        if not data:
-            raise ConnectionError("the server has gone")
-        *lines, self.left = (self.left + data).split(b"\n")
-        return map(json.loads, lines)
+        """Sends messages and takes their answers."""
+        if self.wire is None:
+            link = socket.socket(socket.AF_UNIX, socket.SOCK_STREAM)
+            try:
+                link.connect(self.path)
+            except OSError:
+                link.close()
+                raise
+            self.wire = Wire(link, self.seconds)
+        for tag, answer in self.wire.ask(messages):
+            if "again" not in answer:
+                answers[tag] = answer
 
     def close(self) -> None:
         """Ends the connection."""
-        if self.link is not None:
-            self.link.close()
-            self.link = None
+        if self.wire is not None:
+            self.wire.close()
+            self.wire = None
 
 
-def _end(line: Optional[str]) -> Optional[Ended]:
+def end_told(line: Optional[str]) -> Optional[Ended]:
     """The end that a line tells."""
     found = None if line is None else line_of(line)
     return found if isinstance(found, Ended) else None

@@ -5,7 +5,7 @@ import os
 import stat
 import subprocess
 import sys
-from typing import Iterable, NamedTuple, Optional
+from typing import NamedTuple, Optional, Sequence
 
 from romp801 import files, words
 from romp801.errors import WRONG_USE, Failure
@@ -68,11 +68,11 @@ class Program:
         return cls(os.path.abspath(found))
 
     def start(
-        self, *line: str, given: bytes = b"", keeps: Iterable[int] = (), output: int = subprocess.PIPE
+        self, *line: str, given: bytes = b"", keeps: Sequence[int] = (), output: int = subprocess.PIPE
     ) -> subprocess.Popen[bytes]:
         """Starts the program with these words on these bytes; its output and errors are pipes, or its output goes into
         an open file. Of a store memory forgets the clean pages first, so that the program opens what the medium holds.
-        `keeps` are open files that it has too."""
+        `keeps` are open files that it has too, among them a store that lies in memory alone, which isn't forgotten."""
         for word in line:
             try:
                 os.fsencode(word).decode("utf-8")
@@ -80,7 +80,7 @@ class Program:
                 raise Failure(
                     f"the program takes names in UTF-8 alone, and {os.fsencode(word)!r} isn't", WRONG_USE
                 ) from error
-        if line[0] in OF_A_STORE:
+        if line[0] in OF_A_STORE and not keeps:
             files.forget_store(line[1])
         with files.in_memory(given) as text:
             return subprocess.Popen(
@@ -88,13 +88,13 @@ class Program:
             )
 
     def call(
-        self, *line: str, given: bytes = b"", seconds: Optional[float] = 0.0
+        self, *line: str, given: bytes = b"", seconds: Optional[float] = 0.0, keeps: Sequence[int] = ()
     ) -> subprocess.CompletedProcess[bytes]:
         """Calls the program with these words on these bytes. Where another process has the store it is waited for,
-        `seconds` long."""
+        `seconds` long. `keeps` are open files that the program has too."""
         wait = files.Wait(seconds)
         while True:
-            with self.start(*line, given=given) as child:
+            with self.start(*line, given=given, keeps=keeps) as child:
                 output, errors = child.communicate()
             if (
                 child.returncode != BUSY

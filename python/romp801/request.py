@@ -7,7 +7,7 @@ where one isn't, and else writes. So it is one more commit of the proved program
 from __future__ import annotations
 
 import collections
-from typing import Callable, Iterable, Iterator, Mapping, NamedTuple, Optional, Union
+from typing import Any, Callable, Iterable, Iterator, Mapping, NamedTuple, Optional, Sequence, Union
 
 from romp801 import job, program
 from romp801.errors import WRONG_USE, Failure
@@ -52,6 +52,27 @@ class Apply(NamedTuple):
 
 
 Request = Union[Run, Apply]
+
+
+def message_of(it: Request) -> dict[str, Any]:
+    """A request as JSON."""
+    return {"run": [it.name, *it.values]} if isinstance(it, Run) else it._asdict()
+
+
+def request_of(message: Mapping[str, Any]) -> Request:
+    """The request of a message; raises Failure, ValueError, TypeError or KeyError where it has none."""
+    if "run" in message:
+        name, *values = message["run"]
+        return Run(str(name), tuple(values))
+    compare, write = ((Word(*map(_number, it)) for it in message[part]) for part in ("compare", "write"))
+    return Apply(tuple(compare), tuple(write))
+
+
+def _number(value: Any) -> int:
+    """A number of a word."""
+    if type(value) is not int:
+        raise Failure(f"{value!r} is no number", WRONG_USE)
+    return value
 
 
 def words_at(segment: int, offset: int, data: bytes) -> Iterator[Word]:
@@ -175,9 +196,9 @@ class Front:
             count += 1
         return count
 
-    def job(self, requests: list[Request], rounds: int = 1) -> bytes:
+    def job(self, requests: list[Request], rounds: int = 1, first: Iterable[job.Event] = ()) -> bytes:
         """The job of these: sixteen side by side, with so many rounds of turns. One that ends in its first turn keeps
-        nobody waiting."""
+        nobody waiting. `first` are events in front of them."""
         texts, names = [self.text], []
         for place, it in enumerate(requests):
             if isinstance(it, Apply):
@@ -185,7 +206,7 @@ class Front:
                 texts.append(f"{written_out(names[-1], it)}\n")
             else:
                 names.append(it.name)
-        events: list[Union[job.Event, str]] = []
+        events: list[Union[job.Event, str]] = [*first]
         for at in range(0, len(requests), job.SIDE):
             part = range(at, min(at + job.SIDE, len(requests)))
             for place in part:
@@ -221,10 +242,11 @@ def is_conflict(end: Ended) -> bool:
 
 
 class Asked(NamedTuple):
-    """A request under its name."""
+    """A request under its name. `more` is whatever who runs it wants to know besides."""
 
     name: str
     request: Request
+    more: Any = None
 
 
 Take = Callable[[int, Ended], None]
@@ -284,14 +306,19 @@ class Told(NamedTuple):
 
 
 def run_job(
-    romp801: program.Program, store: str, text: bytes, take: Callable[[Ended], None], seconds: Optional[float]
+    romp801: program.Program,
+    store: str,
+    text: bytes,
+    take: Callable[[Ended], None],
+    seconds: Optional[float],
+    keeps: Sequence[int] = (),
 ) -> Told:
     """Runs a job on a store, and hands each end over as its line is put. Who has the store is waited for, `seconds`
-    long."""
+    long. `keeps` are open files that the program has too."""
     wait = Wait(seconds)
     while True:
         told: list[bytes] = []
-        with romp801.start("run", store, given=text) as child:
+        with romp801.start("run", store, given=text, keeps=keeps) as child:
             assert child.stdout is not None and child.stderr is not None
             for line in child.stdout:
                 told.append(line)
