@@ -123,7 +123,9 @@ class Program:
         with files.copy_of(opening) as (store, keeps), self.start("run", store, given=job, keeps=keeps) as child:
             assert child.stdout is not None
             for text in child.stdout:
-                line = line_of(text.decode())
+                if not text.endswith(b"\n"):
+                    break  # (a piece, of a program that was killed)
+                line = line_of(text[:-1].decode())
                 if to_next and isinstance(line, Commit) and reached == number:
                     break
                 if isinstance(line, Commit) or isinstance(line, Open) and reached is None:
