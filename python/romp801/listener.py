@@ -168,13 +168,13 @@ class Lines:
             writer.close()
 
     async def line(self, client: Client, line: bytes) -> None:
-        """Takes one line of a client: a message, or a list of them."""
+        """Takes one line of a client: a message, or a list of some."""
         try:
             found = json.loads(line)
         except (ValueError, RecursionError) as error:
             client.put({"tag": None, "error": f"this is no request: {type(error).__name__} {error}"})
             return
-        for message in found if isinstance(found, list) else [found]:
+        for message in found if isinstance(found, list) and found else [found]:
             await self._one(client, message)
 
     async def _one(self, client: Client, message: Any) -> None:
