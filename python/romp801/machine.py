@@ -187,7 +187,9 @@ class Activation:
         elif op in (0x91, 0x93, 0xA4):
             self.give(b, {0x91: one + c, 0x93: one - c, 0xA4: c}[op], False)
         elif op in (0x94, 0xB3, 0xB4):
-            self.compare(one if op == 0xB3 else signed(one), c if op == 0x94 else other if op == 0xB3 else signed(other))
+            self.compare(
+                one if op == 0xB3 else signed(one), c if op == 0x94 else other if op == 0xB3 else signed(other)
+            )
         elif op in RESULTS:
             self.give(b, RESULTS[op](one, other, c))
         elif op == 0xEB:

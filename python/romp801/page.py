@@ -260,6 +260,7 @@ def page(
         if places is None or step > len(path):
             return []
         return [places.rows.told(found.names[number], path[step - 1])]
+
     data: dict[str, Any] = {
         "title": title,
         "steps": [dataclasses.asdict(it) for it in steps.steps],
@@ -268,7 +269,12 @@ def page(
         "whole": found.number is not None,
         "traces": {
             number: [
-                [it.step, it.how, names[it.index] if it.index < len(names) else str(it.index), *written(number, it.step)]
+                [
+                    it.step,
+                    it.how,
+                    names[it.index] if it.index < len(names) else str(it.index),
+                    *written(number, it.step),
+                ]
                 for it in touches
             ]
             for number, touches in traces.items()

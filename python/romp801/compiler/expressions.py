@@ -405,7 +405,9 @@ class Expressions:
         args = given
         if its.parameters is not None:
             if len(its.parameters) != len(given):
-                raise refused(node, f"values that are given: {len(given)}; values that are taken: {len(its.parameters)}")
+                raise refused(
+                    node, f"values that are given: {len(given)}; values that are taken: {len(its.parameters)}"
+                )
             args = [self.convert(node, it, to) for it, to in zip(given, its.parameters)]
         else:
             args = [as_int(it, kinds.promoted(it.type)) if isinstance(it.type, Int) else it for it in given]

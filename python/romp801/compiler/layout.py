@@ -55,7 +55,10 @@ class Layout:
         depth = self.whole.depth()
         if self.at + (depth if depth is not None else LEAST_STACK) > TOP:
             need = f"the {depth}" if depth is not None else f"the least, {LEAST_STACK},"
-            raise TooLarge(self.whole.bodies[main].place, f"{main.name} has {self.at} bytes, and with {need} of its stack it passes {TOP}")
+            raise TooLarge(
+                self.whole.bodies[main].place,
+                f"{main.name} has {self.at} bytes, and with {need} of its stack it passes {TOP}",
+            )
         lines = parts[0]
         for it in parts[1:]:
             lines += [".part", *it]
@@ -69,8 +72,10 @@ class Layout:
 
     def _head(self) -> list[str]:
         """The windows."""
-        return [f"        .window {it.register}, {it.segment}, {it.how}"
-                for it in sorted(self.whole.shared.windows.values())]
+        return [
+            f"        .window {it.register}, {it.segment}, {it.how}"
+            for it in sorted(self.whole.shared.windows.values())
+        ]
 
     def _rows(self, unit: Optional[int]) -> list[str]:
         """The functions of a file."""

@@ -26,13 +26,21 @@ from romp801.job import SHORT
 
 TOP = 16384
 """Where the private storage ends, and the first frame."""
-RESULT = frozenset("abs clrbl clrbu exts n nilo nilz niuo niuz o oil oiu onec sar sari sari16 setbl setbu sl sli sli16 sr "
-                   "sri sri16 x xil xiu".split())
+RESULT = frozenset(
+    "abs clrbl clrbu exts n nilo nilz niuo niuz o oil oiu onec sar sari sari16 setbl setbu sl sli sli16 sr "
+    "sri sri16 x xil xiu".split()
+)
 SUM = frozenset("a ae aei ai ais s se sf sfi sis twoc".split())
 COMPARE = frozenset("c ci cis cl cli".split())
 STORES = frozenset("st sth stc sts sths stcs stm".split())
-FLAG = {"eq": ("eq", True), "ne": ("eq", False), "lt": ("lt", True), "ge": ("lt", False), "gt": ("gt", True),
-        "le": ("gt", False)}
+FLAG = {
+    "eq": ("eq", True),
+    "ne": ("eq", False),
+    "lt": ("lt", True),
+    "ge": ("lt", False),
+    "gt": ("gt", True),
+    "le": ("gt", False),
+}
 SETS_FLAGS = {"inc": "ais", "dec": "sis", "cal": "ai"}
 """Rows that do the same as others, and set flags too."""
 BOUND = frozenset("jb jnb bb bnb bbx bnbx bnbr bnbrx balr balrx bali balix svc tgte ti".split())
@@ -162,7 +170,9 @@ class Emitter:
         else:
             self.row("cal", "r1", "r1", str(by))
 
-    def row(self, op: str, *operands: str, to: int = -1, takes: tuple[int, ...] = (), target: Optional[Block] = None) -> Row:
+    def row(
+        self, op: str, *operands: str, to: int = -1, takes: tuple[int, ...] = (), target: Optional[Block] = None
+    ) -> Row:
         """The next row."""
         mask = 0
         for it in takes:
@@ -584,4 +594,3 @@ def _touches(before: Row, branch: Row) -> bool:
     if before.also or before.takes >> LINK & 1 or before.to == LINK:
         return True
     return before.to >= 0 and bool(branch.takes >> before.to & 1)
-
