@@ -209,7 +209,7 @@ class Kills(Case):
     def test_killed_processes(self) -> None:
         """A process that does things once is killed at random, with its program or alone, until it is through."""
         order, count, told = random.Random(7), 40, set[str]()
-        kills, pause = 0, 0.2
+        kills, pause = 0, 0.06
         place = os.path.dirname(os.path.dirname(os.path.abspath(__file__)))
         for _ in range(400):
             with subprocess.Popen(
