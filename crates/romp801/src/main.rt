@@ -1,7 +1,7 @@
 //! The program: it makes the real parts, calls the console once, and ends with the status's number.
 #![tactic(auto)]
 
-ghost use Rattle.std.specs.Prelude.{◌≡◌, ◌++◌, ◌⊎◌, [], ◌∷◌, ℕ, take, IfOk, OnOk, OnErr};
+ghost use Rattle.std.specs.Prelude.{◌≡◌, ◌++◌, ◌⊎◌, [], ◌∷◌, ℕ, take, IfErr, IfOk, OnOk, OnErr};
 ghost use Rattle.std.specs.Process.{exit_status};
 ghost use Rattle.console.specs.Words.{IsForm};
 ghost use Rattle.console.specs.Wants.{source_for};
@@ -94,7 +94,7 @@ fn source_of<I: Read + Drop>(
 
 /// The words of the command line, without the program's name: no command line where one is not UTF-8.
 fn words_of(rt: &HostRuntime) -> Result<Vec<String>, Status>
-    ensures { OnErr result (λ why. (why ≡ Usage) ⊎ (why ≡ NoMemory)) }
+    ensures { IfErr result (λ why. (why ≡ Usage) ⊎ (why ≡ NoMemory)) }
 {
     let args = env::args(rt).map_err(|error| without_words(error.kind()))?;
     let mut words = Vec::new(rt.alloc());
