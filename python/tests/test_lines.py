@@ -3,7 +3,6 @@ from __future__ import annotations
 
 import os
 import pathlib
-import subprocess
 import unittest
 
 from romp801 import Store, files, job, lines, prints, report
@@ -43,7 +42,7 @@ class Machine(Case):
     def again(self, name: str, text: bytes, its: job.Job) -> None:
         """One run, on a store of both segments."""
         store = os.path.join(self.folder, name)
-        subprocess.run([self.program.path, "new", store, "65536", "1", "4", "2", "2"], check=True, capture_output=True)
+        self.new("new", store, "65536", "1", "4", "2", "2")
         opening = files.sound_store(store)
         found = report.Report.read(self.program.call("run", store, given=text).stdout)
         images = prints.images_of(self.program.call("list", given=text).stdout.decode())
