@@ -1,8 +1,7 @@
 -- Statements that are kept whole, and one more.
-use Rattle.asm_parse.proofs.Common.{◌≡◌, ℕ, ◌+◌, ◌<◌, ◌≤◌, List, [], ◌∷◌, ◌++◌, length, map, Option, None, Result, Ok, Err, ap, ◌∙◌, arith, length-append, AllByRecursion, get_or-append_seam, get_or_append_left, Statement, Nothing, Gains, on_line, nat_tests}
+use Rattle.asm_parse.proofs.Common.{◌≡◌, ℕ, ◌+◌, ◌<◌, ◌≤◌, List, [], ◌∷◌, ◌++◌, length, map, Option, None, Result, Ok, Err, ap, ◌∙◌, arith, length-append, AllByRecursion, get_or-append_seam, get_or_append_left, Statement, Nothing, Gains, on_line, nat_tests, Body}
 use Rattle.asm_parse.specs.declared.head.Head.{Head}
 use Rattle.asm_parse.specs.declared.head.Head.TheVariants.{Bare, Whole}
-use Rattle.asm_parse.specs.declared.statement.Body.{Body}
 use Rattle.asm_parse.specs.Kept.{AreHeadsKept, IsHeadKept, stated_by}
 
 abbrev none : Statement

@@ -3,6 +3,7 @@ pub mod NumberLemmas
 pub mod TokenLemmas
 pub mod OperandLemmas
 pub mod TextLemmas
+pub mod LongLemmas
 pub mod FrontLemmas
 pub mod DirectiveLemmas
 pub mod KeptLemmas

@@ -1,7 +1,5 @@
 -- The operands of an instruction, as they are read one after the other.
-use Rattle.asm_parse.proofs.Common.{◌≡◌, ℕ, ◌+◌, ◌<◌, Bool, not, cond, length-map, List, [], ◌∷◌, ◌++◌, length, map, drop, Option, Some, None, refl, ap, position, Bor, drop-cons, prefix_len, option_map, Token, operands_of}
-use Rattle.asm_parse.specs.declared.form.Sort.{Sort}
-use Rattle.asm_parse.specs.declared.statement.Operand.{Operand}
+use Rattle.asm_parse.proofs.Common.{◌≡◌, ℕ, ◌+◌, ◌<◌, Bool, not, cond, length-map, List, [], ◌∷◌, ◌++◌, length, map, drop, Option, Some, None, refl, ap, position, Bor, drop-cons, prefix_len, option_map, Token, operands_of, Sort, Operand}
 
 -- a prefix of a list that was mapped
 prefix_mapped : {A B : Type 0} (p : B → Bool) (f : A → B) (xs : List A) → prefix_len p (map f xs) ≡ prefix_len (λ x. p (f x)) xs

@@ -1,6 +1,5 @@
 -- The statements of a text, as its lines are read one after the other.
-use Rattle.asm_parse.proofs.Common.{◌≡◌, ℕ, suc, ◌+◌, ◌≤◌, Bool, true, false, nat_lt, List, [], ◌∷◌, ◌++◌, length, Option, Some, None, Result, Ok, Err, refl, sym, ap, ◌∙◌, arith, append_assoc, append-nil, length-append, length-drop, slice_split, position_or_len, before_first, lt-ltb, nat_tests, Statement, line_meaning, Gains, is_feed, text_lines, statements_from, then_statements}
-use Rattle.asm_parse.specs.Cut.{behind_first}
+use Rattle.asm_parse.proofs.Common.{◌≡◌, ℕ, suc, ◌+◌, ◌≤◌, Bool, true, false, nat_lt, List, [], ◌∷◌, ◌++◌, length, Option, Some, None, Result, Ok, Err, refl, sym, ap, ◌∙◌, arith, append_assoc, append-nil, length-append, length-drop, slice_split, position_or_len, before_first, lt-ltb, nat_tests, Statement, line_meaning, Gains, is_feed, text_lines, statements_from, then_statements, behind_first}
 
 -- the parts of what stands behind a cut, if there was one
 abbrev pub parts_behind : {X : Type 0} → (X → Bool) → Option (List X) → List (List X)
@@ -23,8 +22,8 @@ cut test (x ∷ xs) = cut_by (test x) refl (cut test xs)
         let behind : suc n + 1 ≡ suc (n + 1) = omega arith in
         rw (e, one_more, behind, less n (length xs), others) refl
 
--- how many bytes stand behind a line feed, counting it
-abbrev pub left_of : Option (List ℕ) → ℕ
+-- how many elements stand behind a cut, counting the one that is cut at
+abbrev pub left_of : {X : Type 0} → Option (List X) → ℕ
 left_of (Some text) = length text + 1
 left_of None = 0
 

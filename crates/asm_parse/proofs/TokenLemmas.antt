@@ -1,5 +1,5 @@
 -- Runs of bytes that pass a test, and the tokens of a line, as they are found one after the other.
-use Rattle.asm_parse.proofs.Common.{◌≡◌, ℕ, zero, suc, ◌+◌, ◌≤◌, ◌≢◌, true, false, List, [], ◌∷◌, ◌++◌, length, take, drop, Option, Result, Ok, Err, refl, sym, ap, ◌∙◌, arith, append_assoc, append-nil, add-one, is_ascii_alphanumeric, is_ascii_digit, prefix_len, IsAscii, nat_tests, literal_number, Token, Begin, begin_at, begins_word, token_before, continues_word, is_blank, more_of, number_begins, then_tokens, tokens_past, word_begins, Bool, list_all, take_while}
+use Rattle.asm_parse.proofs.Common.{◌≡◌, ℕ, zero, suc, ◌+◌, ◌≤◌, ◌≢◌, true, false, List, [], ◌∷◌, ◌++◌, length, take, drop, Option, Result, Ok, Err, refl, sym, ap, ◌∙◌, arith, append_assoc, append-nil, length-append, add-one, is_ascii_alphanumeric, is_ascii_digit, prefix_len, IsAscii, nat_tests, literal_number, Token, Begin, begin_at, begins_word, token_before, continues_word, is_blank, more_of, number_begins, then_tokens, tokens_past, word_begins, Bool, list_all, take_while, kept_tokens, take_all, take_at, ◌<◌}
 use Rattle.std.proofs.lemmas.Str.Ascii.{IsAscii-nil, IsAscii-cons}
 use Rattle.std.proofs.lemmas.List.Sums.{take_while-cons}
 
@@ -24,16 +24,32 @@ pub each_also : (test other : ℕ → Bool) (bytes : List ℕ) → ((byte : ℕ)
 each_also test other [] weaker pass = refl
 each_also test other (byte ∷ bytes) weaker pass = grind (arith, weaker byte, each_also test other bytes weaker)
 
--- tokens behind those that were found
+-- tokens behind those that were found, of which the first 64 are kept
 abbrev pub behind : List Token → Result (List Token) ℕ → Result (List Token) ℕ
-behind found (Ok tokens) = Ok (found ++ tokens)
+behind found (Ok tokens) = Ok (take 64 (found ++ tokens))
 behind found (Err kind) = Err kind
 
-pub behind_none : (others : Result (List Token) ℕ) → behind [] others ≡ others
+pub behind_none : (others : Result (List Token) ℕ) → behind [] others ≡ kept_tokens others
 behind_none others = grind (arith, nat_tests)
 
-pub behind_one : (found : List Token) (token : Token) (others : Result (List Token) ℕ) → behind (found ++ token ∷ []) others ≡ behind found (token_before token others)
+-- a token that isn't kept changes nothing
+pub behind_full : (found : List Token) (token : Token) (others : Result (List Token) ℕ) → length found ≡ 64 → behind found others ≡ behind found (token_before token others)
+behind_full found token (Err kind) full = refl
+behind_full found token (Ok tokens) full = ap Ok (take_at found tokens 64 full ∙ sym (take_at found (token ∷ tokens) 64 full))
+
+-- what was found is kept
+pub found_kept : (found : List Token) → length found ≤ 64 → take 64 (found ++ []) ≡ found
+found_kept found few = ap (take 64) (append-nil found) ∙ take_all 64 found few
+
+behind_one : (found : List Token) (token : Token) (others : Result (List Token) ℕ) → behind (found ++ token ∷ []) others ≡ behind found (token_before token others)
 behind_one found token others = grind (arith, nat_tests, append_assoc)
+
+-- a token is kept
+pub pushed : (found new : List Token) (token : Token) (others whole : Result (List Token) ℕ) → new ≡ found ++ token ∷ [] → behind found (token_before token others) ≡ whole → behind new others ≡ whole
+pushed found new token others whole is so_far = rw is (behind_one found token others ∙ so_far)
+
+pub pushed_few : (found new : List Token) (token : Token) → length found < 64 → new ≡ found ++ token ∷ [] → length new ≤ 64
+pushed_few found new token few is = omega (arith, few, ap length is, length-append found (token ∷ []))
 
 -- what is passed over is left out
 pub passed : (bytes : List ℕ) (n : ℕ) → tokens_past bytes n ≡ tokens_past (drop n bytes) 0
@@ -88,7 +104,7 @@ begins_with_digit left rest first more begin split blank comment word digit is m
     let text = front left rest first more split in
     grind (arith, nat_tests, blank, comment, word, digit, is, made, text)
 
--- what was found is all where no byte is left
-pub behind_all : (found : List Token) (left : List ℕ) (whole : Result (List Token) ℕ) → length left ≡ 0 → behind found (tokens_past left 0) ≡ whole → whole ≡ Ok found
-behind_all found [] whole none so_far = sym so_far ∙ ap (behind found) from_none ∙ ap Ok (append-nil found)
-behind_all found (byte ∷ left) whole none so_far = absurd (omega arith)
+-- what was found is all that is kept where no byte is left
+pub behind_all : (found : List Token) (left : List ℕ) (whole : Result (List Token) ℕ) → length found ≤ 64 → length left ≡ 0 → behind found (tokens_past left 0) ≡ whole → whole ≡ Ok found
+behind_all found [] whole few none so_far = sym so_far ∙ ap (behind found) from_none ∙ ap Ok (found_kept found few)
+behind_all found (byte ∷ left) whole few none so_far = absurd (omega arith)

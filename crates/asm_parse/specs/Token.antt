@@ -1,5 +1,5 @@
 -- The tokens of a line.
-use Rattle.std.specs.Prelude.{ℕ, zero, suc, nat_le, ◌==◌, ◌||◌, if◌then◌else◌, Bool, List, [], ◌∷◌, length, take_while, Option, Some, None, Result, Ok, Err}
+use Rattle.std.specs.Prelude.{ℕ, zero, suc, nat_le, ◌==◌, ◌||◌, if◌then◌else◌, Bool, List, [], ◌∷◌, length, take, take_while, Option, Some, None, Result, Ok, Err}
 use Rattle.std.specs.List.{prefix_len}
 use Rattle.std.specs.Char.{is_ascii_alphabetic, is_ascii_alphanumeric, is_ascii_digit}
 use Rattle.asm_parse.specs.Number.{literal_number}
@@ -78,3 +78,8 @@ tokens_past (byte ∷ rest) zero = then_tokens (begin_at byte rest) (tokens_past
 -- the tokens of a line, or the kind of the first that is bad
 abbrev pub tokens : List ℕ → Result (List Token) ℕ
 tokens line = tokens_past line 0
+
+-- the tokens that are kept of a line: with more than 64 it means what the first 64 do
+abbrev pub kept_tokens : Result (List Token) ℕ → Result (List Token) ℕ
+kept_tokens (Ok found) = Ok (take 64 found)
+kept_tokens (Err kind) = Err kind

@@ -47,6 +47,7 @@ pub fn parse(alloc: Global, text: &[u8]) -> Result<Vec<Statement>, AsmFault>
 }
 
 /// Appends the statement of a line, if it has one; its tokens lie in the room.
+#[tactic(auto, using(crate::proofs::LongLemmas::line_kept))]
 fn push_line(
     room: &mut Vec<Token>,
     statements: &mut Vec<Statement>,

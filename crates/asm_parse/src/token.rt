@@ -3,7 +3,7 @@ ghost use Rattle.std.specs.Char.{is_ascii_alphanumeric};
 ghost use Rattle.std.specs.List.{prefix_len};
 ghost use Rattle.std.specs.Str.{IsAscii};
 ghost use Rattle.asm_parse.specs.Number.{literal_number};
-ghost use Rattle.asm_parse.specs.Token.{begin_at, begins_word, continues_word, is_blank, mark_begins, more_of, number_begins, tokens, word_begins};
+ghost use Rattle.asm_parse.specs.Token.{begin_at, begins_word, continues_word, is_blank, kept_tokens, mark_begins, more_of, number_begins, tokens, word_begins};
 ghost use Rattle.asm_parse.specs.Answers.{Answers};
 
 use super::asm_fault::LineFault;
@@ -42,15 +42,18 @@ const CHARACTER: u8 = 1;
 /// A number that is none, or has more than 32 bits.
 const NUMBER: u8 = 4;
 
-/// The tokens of a line without its line feed, in a room that is kept for one line after another. Of the tokens before
-/// nothing is left; after an error any may lie there.
+/// How many tokens of a line are kept: a line that has more means what these do.
+const MOST_TOKENS: usize = 64;
+
+/// The tokens of a line without its line feed, at most the first 64, in a room that is kept for one line after another. So
+/// no line takes more room, however long it is. Of the tokens before nothing is left; after an error any may lie there.
 ///
 /// # Errors
 ///
 /// [`LineFault::Kind`] with the kind of the first token that is bad: 1 for a byte that begins none or a word of more
 /// than 31 bytes, 4 for a number that is none or has more than 32 bits. [`LineFault::Memory`] where there is no memory.
 pub fn tokens_into(found: &mut Vec<Token>, line: &[u8]) -> Result<(), LineFault>
-    ensures { Answers (λ _. found.new.items) result (tokens line.now) }
+    ensures { Answers (λ _. found.new.items) result (kept_tokens (tokens line.now)) }
 {
     found.clear();
     let mut left = line;
@@ -58,6 +61,7 @@ pub fn tokens_into(found: &mut Vec<Token>, line: &[u8]) -> Result<(), LineFault>
         match begin_of(left, *first, rest) {
             Begin::Blank => left = rest,
             Begin::Comment => return Ok(()),
+            Begin::Takes(_, more) if found.len() == MOST_TOKENS => left = rest.split_at(more).1,
             Begin::Takes(token, more) => {
                 found.push(token)?;
                 left = rest.split_at(more).1;

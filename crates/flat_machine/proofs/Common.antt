@@ -22,8 +22,8 @@ unfoldable pub use Rattle.romp_table.specs.Decode.{row_numbered}
 pub use Rattle.flat_machine.specs.Access.{LiesWithin}
 pub use Rattle.flat_machine.specs.After.{after, clear, next_state, start}
 pub use Rattle.flat_machine.specs.Agreement.{AgreeBut, AgreeOn, AgreementIsEnough, DoesTheSame, SameWay, all_of, flat_line}
-pub use Rattle.flat_machine.specs.Effect.{fill_words, filled}
-pub use Rattle.flat_machine.specs.Row.{Check, Commit, On, Outcome, acts, halfword, in_register, in_segment, in_window, loads, located, moved, plan_at, row, row_by, stored_bytes, stores, with_link}
+pub use Rattle.flat_machine.specs.Effect.{fill_words, filled, worked}
+pub use Rattle.flat_machine.specs.Row.{Check, Commit, On, Outcome, acts, halfword, in_register, in_segment, in_window, loads, located, moved, plan_at, row, row_by, stored_bytes, stores, with_link, plan_alone}
 pub use Rattle.flat_machine.specs.Serial.{Activation, before_commit, committing, if_commit, numbered, serial}
 pub use Rattle.flat_machine.specs.Touched.{lines_at, lines_of_act, touched, touched_by}
 pub use Rattle.flat_machine.specs.declared.machine.Act.{Act}
@@ -31,7 +31,7 @@ pub use Rattle.flat_machine.specs.declared.machine.Cs.{Cs}
 pub use Rattle.flat_machine.specs.declared.machine.Located.{Located}
 pub use Rattle.flat_machine.specs.declared.machine.Located.TheVariants.{Private, Refused, Shared}
 pub use Rattle.flat_machine.specs.declared.machine.Plain.{Plain}
-pub use Rattle.flat_machine.specs.Plans.{Plan, Does, Fails}
+pub use Rattle.flat_machine.specs.Plans.{Plan, Does, Fails, Work}
 pub use Rattle.flat_machine.specs.declared.machine.Program.{Program}
 pub use Rattle.flat_machine.specs.Branches.{target}
 pub use Rattle.flat_machine.specs.declared.ready.Ready.{Ready}

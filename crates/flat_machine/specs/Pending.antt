@@ -1,12 +1,13 @@
 -- What is left of a row once registers and status are as it makes them.
-use Rattle.std.specs.Prelude.{◌≡◌, ℕ, ◌<◌, List, length}
+use Rattle.std.specs.Prelude.{◌≡◌, ℕ, ◌<◌, List, length, Some, None}
 use Rattle.std.specs.Option.{ForSome}
-use Rattle.flat_machine.specs.declared.machine.Act.{Act}
-use Rattle.flat_machine.specs.declared.machine.Cs.{Cs}
 use Rattle.flat_machine.specs.declared.machine.Pending.{Pending}
-use Rattle.flat_machine.specs.Plans.{Plan, Does, Fails, Work}
+use Rattle.flat_machine.specs.declared.ready.Rest.{Rest}
 use Rattle.flat_machine.specs.Access.{IsAccess}
 use Rattle.flat_machine.specs.Below.{Inst}
+use Rattle.flat_machine.specs.declared.machine.Act.{Act}
+use Rattle.flat_machine.specs.declared.machine.Cs.{Cs}
+use Rattle.flat_machine.specs.Plans.{Plan, Does, Fails, Work}
 use Rattle.flat_machine.specs.declared.machine.Branch.{Branch}
 use Rattle.flat_machine.specs.Effect.{worked}
 use Rattle.flat_machine.specs.Work.{work_of}
@@ -16,6 +17,14 @@ use Rattle.flat_machine.specs.Row.{goes_by}
 abbrev pub planned : List ℕ → Cs → Pending → Plan
 planned registers status (Pending.Does act next link) = Does registers status act next link
 planned registers status (Pending.Fails code) = Fails code
+
+-- what is left of a row made ready, as what is left of any row
+abbrev pub pending_of : Rest → Pending
+pending_of (Rest.On next) = Pending.Does Act.Nothing next None
+pending_of (Rest.Link to register after) = Pending.Does Act.Nothing to (Some (register, after))
+pending_of (Rest.Load address bytes to sign next) = Pending.Does (Act.Load address bytes to sign) next None
+pending_of (Rest.Store address bytes from next) = Pending.Does (Act.Store address bytes from) next None
+pending_of (Rest.Trap next) = Pending.Does (Act.Check 3) next None
 
 -- registers and status are as before where something is wanted beside them
 abbrev pub StaysIfWanting : Act → (old new : List ℕ) → (before after : Cs) → Type 0

@@ -1,20 +1,17 @@
 -- Rows made ready: decoded once, each with its operand as it is used.
 use Rattle.std.specs.Prelude.{◌≡◌, ℕ, ◌+◌, ◌-◌, ◌*◌, ◌%◌, ◌==◌, nat_lt, nat_le, not, if◌then◌else◌, Bool, true, false, List, slice_index, Option, Some, None, IfSome, bit_and, bit_or, bit_xor, Result}
-use Rattle.romp_table.specs.declared.inst.Inst.{Inst}
-use Rattle.flat_machine.specs.declared.machine.Cs.{Cs}
-use Rattle.flat_machine.specs.declared.machine.Act.{Act}
-use Rattle.flat_machine.specs.declared.ready.Doing.{Doing}
 use Rattle.flat_machine.specs.declared.ready.Ready.{Ready}
-use Rattle.flat_machine.specs.Plans.{Plan, Does, Work, Put, Signed, Sum, Compare, Want}
-use Rattle.flat_machine.specs.Status.{is_negative}
-use Rattle.flat_machine.specs.Words.{extended, complement, biased, shifted_left, shifted_right, shifted_signed, bit, sum_of, word_difference}
 use Rattle.flat_machine.specs.Work.{base, loads_byte, loads_half, loads_words, stores_byte, stores_half, stores_words, traps, is_masked, work_of_r}
 use Rattle.flat_machine.specs.Branches.{condition, even, branch_to}
 use Rattle.flat_machine.specs.Effect.{worked}
 use Rattle.flat_machine.specs.Row.{plan, plan_of, plan_alone, plan_of_branch}
-use Rattle.flat_machine.specs.Below.{Op}
-use Rattle.flat_machine.specs.declared.machine.Pending.{Pending}
-use Rattle.flat_machine.specs.Pending.{planned, IsSoundPending}
+use Rattle.flat_machine.specs.Below.{Op, Inst}
+use Rattle.flat_machine.specs.declared.machine.Cs.{Cs}
+use Rattle.flat_machine.specs.declared.machine.Act.{Act}
+use Rattle.flat_machine.specs.declared.ready.Doing.{Doing}
+use Rattle.flat_machine.specs.Plans.{Plan, Does, Work, Put, Signed, Sum, Compare, Want}
+use Rattle.flat_machine.specs.Status.{is_negative}
+use Rattle.flat_machine.specs.Words.{extended, complement, biased, shifted_left, shifted_right, shifted_signed, bit, sum_of, word_difference}
 
 -- whether a row made ready has a second halfword
 abbrev pub has_second : Ready → Bool
@@ -34,6 +31,12 @@ access_made Doing.StoreByte b address y = stores_byte address b
 access_made Doing.StoreHalf b address y = stores_half address b
 access_made Doing.StoreWord b address y = stores_words address 4 b
 access_made Doing.StoreWords b address y = stores_words address (4 * (16 - b)) b
+access_made Doing.LoadByteShort b address y = loads_byte address b
+access_made Doing.LoadHalfSignedShort b address y = loads_half address b true
+access_made Doing.LoadWordShort b address y = loads_words address 4 b
+access_made Doing.StoreByteShort b address y = stores_byte address b
+access_made Doing.StoreHalfShort b address y = stores_half address b
+access_made Doing.StoreWordShort b address y = stores_words address 4 b
 access_made _ b address y = Want Act.Nothing
 
 -- the rows of two registers, and those that load and store
@@ -67,17 +70,21 @@ work_made Doing.Decrease r cs b x y z i = Put b (word_difference y i)
 work_made Doing.Address r cs b x y z i = Put b (sum_of z i 0)
 work_made Doing.AddressOfTwo r cs b x y z i = Put b (sum_of (slice_index r (i % 16)) z 0)
 work_made Doing.AddOperand r cs b x y z i = Sum b y i 0
+work_made Doing.AddOperandShort r cs b x y z i = Sum b y i 0
 work_made Doing.AddOperandCarry r cs b x y z i = Sum b y i (bit cs.c0)
 work_made Doing.AddOperandOne r cs b x y z i = Sum b y i 1
 work_made Doing.SubtractFromOperand r cs b x y z i = Sum b i (complement y) 1
 work_made Doing.AndOperand r cs b x y z i = Signed b (bit_and y i)
 work_made Doing.OrOperand r cs b x y z i = Signed b (bit_or y i)
+work_made Doing.AndOperandShort r cs b x y z i = Signed b (bit_and y i)
+work_made Doing.OrOperandShort r cs b x y z i = Signed b (bit_or y i)
 work_made Doing.DifferOperand r cs b x y z i = Signed b (bit_xor y i)
 work_made Doing.ShiftLeftBy r cs b x y z i = Signed b (shifted_left x (i % 64))
 work_made Doing.ShiftRightBy r cs b x y z i = Signed b (shifted_right x (i % 64))
 work_made Doing.ShiftSignedBy r cs b x y z i = Signed b (shifted_signed x (i % 64))
 work_made Doing.CompareOperand r cs b x y z i = Compare y i
 work_made Doing.CompareSignedOperand r cs b x y z i = Compare (biased y) i
+work_made Doing.CompareSignedOperandShort r cs b x y z i = Compare (biased y) i
 work_made Doing.TrapIfMasked r cs b x y z i = traps (is_masked b (biased y) i)
 work_made doing r cs b x y z i = work_of_two doing cs b x y z i
 
@@ -176,16 +183,3 @@ pub record DoesCount (op : Op) (k : ℕ) (doing : Doing) (i : ℕ) : Type 0 wher
   pub value :
       (registers : List ℕ) (status : Cs) (b x y z : ℕ) → work_made doing registers status b x x z i ≡ work_of_r op b k x y status
   pub goes_on : GoesOn doing
-
--- a row made ready is done, which wants nothing beside registers and status: these are as it makes them, and the next row is there
-abbrev pub IsDone : Ready → (iar : ℕ) → (old : List ℕ) → (before : Cs) → (new : List ℕ) → (after : Cs) → (next : ℕ) → Type 0
-IsDone row iar old before new after next = done row old before iar ≡ Does new after Act.Nothing next None
-
--- what is left of a row made ready that changes neither registers nor status
-abbrev pub IsRest : Ready → (iar : ℕ) → (registers : List ℕ) → Pending → Type 0
-IsRest row iar registers left = (status : Cs) → done row registers status iar ≡ planned registers status left
-
--- what is left of a row that goes to an address and leaves the one after it in a register
-pub record IsLink (to register after : ℕ) (left : Pending) : Type 0 where
-  pub value : (registers : List ℕ) (status : Cs) → goes_with_link to register after registers status ≡ planned registers status left
-  pub sound : IsSoundPending left

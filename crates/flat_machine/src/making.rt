@@ -6,6 +6,7 @@ ghost use Rattle.flat_machine.specs.declared.ready.Ready.{Ready};
 ghost use Rattle.flat_machine.specs.Branches.{branch_to, is_register_branch};
 ghost use Rattle.flat_machine.specs.Row.{plan_of_branch};
 ghost use Rattle.flat_machine.specs.Work.{work_of_r, work_of_d, work_of_s};
+ghost use Rattle.flat_machine.specs.Lengths.{inst_length, length_made};
 ghost use Rattle.flat_machine.specs.Ready.{done_by, has_second, work_made, GoesOn, IsReadyOf, IsReadyRowOf, IsJump, IsMade, DoesTwo, DoesCount, MakesWork};
 
 use super::branches::target_of;
@@ -37,7 +38,7 @@ pub fn ready_of(first: u16, second: u16, iar: u32) -> Option<Ready>
 /// The same of an instruction of so many bytes.
 fn ready_instruction(inst: &Inst, bytes: u8, iar: u32) -> Option<Ready>
     requires widths { HasWidths inst.now }
-    requires bytes { bytes ≤ 4 }
+    requires bytes { bytes ≡ inst_length inst.now }
     ensures { IfSome result (IsMade inst.now bytes iar) }
 {
     match *inst {
@@ -69,7 +70,8 @@ fn ready_instruction(inst: &Inst, bytes: u8, iar: u32) -> Option<Ready>
 
 /// These parts as a row.
 fn row_with(doing: Doing, bytes: u8, b: u8, c: u8, i: u32) -> Ready
-    requires { (bytes ≤ 4) × (b < 16) × (c < 16) }
+    requires fields { (bytes ≤ 4) × (b < 16) × (c < 16) }
+    requires length { length_made doing bytes ≡ bytes }
     ensures parts { (result.doing ≡ doing) × (result.bytes ≡ bytes) × (result.b ≡ b) × (result.c ≡ c) × (result.i ≡ i) }
 {
     Ready {
@@ -83,7 +85,7 @@ fn row_with(doing: Doing, bytes: u8, b: u8, c: u8, i: u32) -> Ready
 
 /// Format R.
 fn ready_two(op: Op, b: u8, c: u8, bytes: u8, iar: u32) -> Option<Ready>
-    requires { (bytes ≤ 4) × (b < 16) × (c < 16) }
+    requires { (bytes ≡ 2) × (b < 16) × (c < 16) }
     ensures { IfSome result (IsMade (Inst.R op b c) bytes iar) }
 {
     match op {
@@ -96,7 +98,7 @@ fn ready_two(op: Op, b: u8, c: u8, bytes: u8, iar: u32) -> Option<Ready>
 
 /// The same of those that don't branch.
 fn ready_work(op: Op, b: u8, c: u8, bytes: u8, iar: u32) -> Option<Ready>
-    requires { (bytes ≤ 4) × (b < 16) × (c < 16) }
+    requires { (bytes ≡ 2) × (b < 16) × (c < 16) }
     ensures { IfSome result (IsMade (Inst.R op b c) bytes iar) }
 {
     if let Some(doing) = two_made(op) {
@@ -109,7 +111,7 @@ fn ready_work(op: Op, b: u8, c: u8, bytes: u8, iar: u32) -> Option<Ready>
 /// Format BI.
 fn ready_far(op: Op, b: u8, disp: i32, bytes: u8, iar: u32) -> Option<Ready>
     requires widths { HasWidths (Inst.BI op b disp) }
-    requires bytes { bytes ≤ 4 }
+    requires bytes { bytes ≡ 4 }
     ensures { IfSome result (IsMade (Inst.BI op b disp) bytes iar) }
 {
     let i = target_of(iar, 2 * disp);
@@ -121,7 +123,8 @@ fn ready_far(op: Op, b: u8, disp: i32, bytes: u8, iar: u32) -> Option<Ready>
 
 /// What a branch or jump by a condition does, if it has neither a link nor a subject.
 fn jump_made(op: Op, field: u8) -> Option<Doing>
-    ensures { IfSome result (IsJump op field) }
+    ensures goes { IfSome result (IsJump op field) }
+    ensures length { IfSome result (λ doing. (bytes : ℕ) → length_made doing bytes ≡ bytes) }
 {
     match op {
         Op::Jb | Op::Bb => match field {
@@ -149,16 +152,17 @@ fn jump_made(op: Op, field: u8) -> Option<Doing>
 /// What a row of format S does, and its operand.
 fn short_made(op: Op, k: u8) -> Option<(Doing, u32)>
     requires { k < 16 }
-    ensures { MakesWork (λ registers status b x y z. work_of_s op k b z) result }
+    ensures works { MakesWork (λ registers status b x y z. work_of_s op k b z) result }
+    ensures length { IfSome result (λ made. length_made made.0 2 ≡ 2) }
 {
     let k = u32::from(k);
     match op {
-        Op::Stcs => Some((Doing::StoreByte, k)),
-        Op::Sths => Some((Doing::StoreHalf, k * 2)),
-        Op::Sts => Some((Doing::StoreWord, k * 4)),
-        Op::Lcs => Some((Doing::LoadByte, k)),
-        Op::Lhas => Some((Doing::LoadHalfSigned, k * 2)),
-        Op::Ls => Some((Doing::LoadWord, k * 4)),
+        Op::Stcs => Some((Doing::StoreByteShort, k)),
+        Op::Sths => Some((Doing::StoreHalfShort, k * 2)),
+        Op::Sts => Some((Doing::StoreWordShort, k * 4)),
+        Op::Lcs => Some((Doing::LoadByteShort, k)),
+        Op::Lhas => Some((Doing::LoadHalfSignedShort, k * 2)),
+        Op::Ls => Some((Doing::LoadWordShort, k * 4)),
         _ => None,
     }
 }
@@ -167,6 +171,7 @@ fn short_made(op: Op, k: u8) -> Option<(Doing, u32)>
 fn two_made(op: Op) -> Option<Doing>
     ensures does { IfSome result (DoesTwo op) }
     ensures works { IfSome result (λ doing. is_register_branch op ≡ false) }
+    ensures length { IfSome result (λ doing. length_made doing 2 ≡ 2) }
 {
     match op {
         Op::Sar => Some(Doing::ShiftSigned),
@@ -198,19 +203,20 @@ fn count_made(op: Op, k: u8) -> Option<(Doing, u32)>
     requires { k < 16 }
     ensures does { IfSome result (λ made. DoesCount op k made.0 made.1) }
     ensures works { IfSome result (λ made. is_register_branch op ≡ false) }
+    ensures length { IfSome result (λ made. length_made made.0 2 ≡ 2) }
 {
     let count = u32::from(k);
     match op {
-        Op::Ais => Some((Doing::AddOperand, count)),
+        Op::Ais => Some((Doing::AddOperandShort, count)),
         Op::Sis => Some((Doing::AddOperandOne, invert(count))),
         Op::Inc => Some((Doing::Increase, count)),
         Op::Dec => Some((Doing::Decrease, count)),
         Op::Lis => Some((Doing::Take, count)),
-        Op::Cis => Some((Doing::CompareSignedOperand, bias(count))),
-        Op::Clrbu => Some((Doing::AndOperand, invert(bit_at(k)))),
-        Op::Clrbl => Some((Doing::AndOperand, invert(bit_at(16 + k)))),
-        Op::Setbu => Some((Doing::OrOperand, bit_at(k))),
-        Op::Setbl => Some((Doing::OrOperand, bit_at(16 + k))),
+        Op::Cis => Some((Doing::CompareSignedOperandShort, bias(count))),
+        Op::Clrbu => Some((Doing::AndOperandShort, invert(bit_at(k)))),
+        Op::Clrbl => Some((Doing::AndOperandShort, invert(bit_at(16 + k)))),
+        Op::Setbu => Some((Doing::OrOperandShort, bit_at(k))),
+        Op::Setbl => Some((Doing::OrOperandShort, bit_at(16 + k))),
         Op::Sari => Some((Doing::ShiftSignedBy, count)),
         Op::Sari16 => Some((Doing::ShiftSignedBy, count + 16)),
         Op::Sri => Some((Doing::ShiftRightBy, count)),
@@ -223,7 +229,8 @@ fn count_made(op: Op, k: u8) -> Option<(Doing, u32)>
 
 /// What a row of format D does, and its operand.
 fn long_made(op: Op, i: u16) -> Option<(Doing, u32)>
-    ensures { MakesWork (λ r cs b x y z. work_of_d op r cs b y z i) result }
+    ensures works { MakesWork (λ r cs b x y z. work_of_d op r cs b y z i) result }
+    ensures length { IfSome result (λ made. length_made made.0 4 ≡ 4) }
 {
     let low = u32::from(i);
     let high = low * 0x1_0000;
@@ -250,7 +257,8 @@ fn long_made(op: Op, i: u16) -> Option<(Doing, u32)>
 
 /// What a row of format D that loads or stores does, and its displacement.
 fn access_of(op: Op, i: u16) -> Option<(Doing, u32)>
-    ensures { MakesWork (λ r cs b x y z. work_of_d op r cs b y z i) result }
+    ensures works { MakesWork (λ r cs b x y z. work_of_d op r cs b y z i) result }
+    ensures length { IfSome result (λ made. length_made made.0 4 ≡ 4) }
 {
     let doing = match op {
         Op::Lm => Doing::LoadWords,

@@ -1,7 +1,5 @@
 -- What the bytes of frames end as once the borrow of a part of them has ended.
-use Rattle.frame_pool.proofs.Common.{length-append, length-take, length-drop, drop-drop, overlaid, length-overlaid, with_part, with_frame_part, with_bytes, Pool, ◌≡◌, ℕ, ◌+◌, ◌≤◌, List, ◌++◌, length, take, drop, sym, ◌∙◌, ap, arith, append_assoc}
-use Rattle.std.proofs.lemmas.List.{take-append-le, take_all}
-use Rattle.std.specs.Vec.{with_items_from}
+use Rattle.frame_pool.proofs.Common.{length-append, length-take, length-drop, drop-drop, overlaid, length-overlaid, with_part, with_frame_part, with_bytes, Pool, ◌≡◌, ℕ, ◌+◌, ◌≤◌, List, ◌++◌, length, take, drop, sym, ◌∙◌, ap, arith, append_assoc, take-append-le, take_all, with_items_from}
 use Rattle.std.specs.declared.vec.Vec.{Vec}
 
 -- no bytes are lost by a part that is written over them

@@ -1,8 +1,5 @@
 -- What holds of every pool, and stays where a page leaves.
-use Rattle.frame_pool.proofs.Common.{◌+◌, ◌≤◌, ◌==◌, if◌then◌else◌, slice_index_or, slice_set, is_some, length-set, get_or-set_same, get_or-set_other, get_or_past, with_part, with_frame_part, marked_in, overlaid, length-take, length-take-le, length-drop, length-overlaid, page_bytes, has, taken_out, has-filter, IsSeen, frame_count, frame_at, page_at, frame_bytes, paging_after, gone, Pool, nat_tests, ◌≡◌, ℕ, ◌*◌, ◌<◌, List, [], ◌∷◌, length, sym, ◌∙◌, ap, arith, Option, Some, None}
-use Rattle.frame_pool.proofs.SoundLemmas.{apart-without, page_part, without-fewer}
-use Rattle.frame_pool.proofs.PoolLemmas.{gone-from}
-use Rattle.frame_pool.proofs.LendLemmas.{none-lost}
+use Rattle.frame_pool.proofs.Lemmas.{◌+◌, ◌≤◌, ◌==◌, if◌then◌else◌, slice_index_or, slice_set, is_some, length-set, get_or-set_same, get_or-set_other, get_or_past, with_part, with_frame_part, marked_in, overlaid, length-take, length-take-le, length-drop, length-overlaid, page_bytes, has, taken_out, has-filter, IsSeen, frame_count, frame_at, page_at, frame_bytes, paging_after, gone, Pool, nat_tests, ◌≡◌, ℕ, ◌*◌, ◌<◌, List, [], ◌∷◌, length, sym, ◌∙◌, ap, arith, Option, Some, None, apart-without, page_part, without-fewer, gone-from, none-lost}
 
 -- a pool whose frames have other bytes
 pub seen-bytes : (pool : Pool) (bytes : List ℕ) → length bytes ≡ length pool.bytes → IsSeen pool → IsSeen (record pool { bytes = bytes })

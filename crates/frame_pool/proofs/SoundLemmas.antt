@@ -1,8 +1,7 @@
 -- A pool's pages agree after a page left its frame, and after one came into a frame; and what such a step needs.
-use Rattle.frame_pool.proofs.Common.{has-filter, taken_out, ◌≡◌, ℕ, zero, suc, ◌+◌, ◌*◌, ◌<◌, ◌≤◌, Bool, true, false, List, [], ◌∷◌, ◌++◌, length, refl, sym, ◌∙◌, ap, arith, Some, None, ◌==◌, remove, replicate, slice_index, slice_index_or, slice_set, Option, is_some, unwrap_or, range_with_len, cases_eq, nat_tests, length-set, length-append, get_or-set_same, get_or-set_other, length-replicate, get_or-replicate, PageSize, has-range, has, private_frames, frame_count, ArePlacesSound, IsPlaced, IsOfStore, is_apart, ◌||◌, not, and_from, or_from, not_from_false, has-append, vec_len, vec_capacity, position, if◌then◌else◌, Result, is_ok, IsOk, IsSome, option_to_list, prefix_len, get_or_read_under, frame_of_page, pool_places, find}
+use Rattle.frame_pool.proofs.Common.{has-filter, taken_out, ◌≡◌, ℕ, zero, suc, ◌+◌, ◌*◌, ◌<◌, ◌≤◌, Bool, true, false, List, [], ◌∷◌, ◌++◌, length, refl, sym, ◌∙◌, ap, arith, Some, None, ◌==◌, remove, replicate, slice_index, slice_index_or, slice_set, Option, is_some, unwrap_or, range_with_len, cases_eq, nat_tests, length-set, length-append, get_or-set_same, get_or-set_other, length-replicate, get_or-replicate, PageSize, has-range, has, private_frames, frame_count, ArePlacesSound, IsPlaced, IsOfStore, is_apart, ◌||◌, not, and_from, or_from, not_from_false, has-append, vec_len, vec_capacity, position, if◌then◌else◌, Result, is_ok, IsOk, IsSome, option_to_list, prefix_len, get_or_read_under, frame_of_page, pool_places, find, Places, goes_out, place_page, fresh_places, place_left}
 use Rattle.std.proofs.Math.ListN.{get_or-eq_default}
 use Rattle.std.proofs.lemmas.List.FromFn.{length-range_with_len}
-use Rattle.frame_pool.specs.Places.{Places, frame_of_page, goes_out, place_page, fresh_places, place_left}
 use Rattle.frame_pool.specs.declared.frame_places.FramePlaces.{FramePlaces}
 
 -- lists in which no number stands twice, under a push and a removal

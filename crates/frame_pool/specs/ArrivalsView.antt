@@ -1,8 +1,8 @@
 -- What `Arrivals` and what is left of them are seen as, and what holds of their parts.
 use Rattle.std.specs.Prelude.{◌≡◌, ℕ, ◌+◌, ◌<◌, true, List, slice_index, vec_len}
 use Rattle.frame_pool.specs.Below.{has}
-use Rattle.frame_pool.specs.Sound.{is_apart}
 use Rattle.frame_pool.specs.Arrivals.{Arrived, IsChain, led}
+use Rattle.frame_pool.specs.Sound.{is_apart}
 use Rattle.frame_pool.specs.declared.arrivals.Arrivals.TheInside.{Inside}
 
 abbrev pub order_of : Inside → List ℕ

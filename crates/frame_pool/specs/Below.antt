@@ -7,3 +7,4 @@ pub use Rattle.lines.specs.Overlay.{overlaid}
 pub use Rattle.lines.specs.Segments.{line_bytes, page_bytes}
 pub use Rattle.lines.specs.Sets.{has}
 pub use Rattle.lines.specs.declared.line_geometry.PageSize.{PageSize}
+pub use Rattle.lines.specs.Resident.{brought, taken_out}

@@ -1,7 +1,6 @@
 -- Which pages are resident, in which frames.
 use Rattle.std.specs.Prelude.{◌≡◌, ℕ, nat_lt, not, if◌then◌else◌, length, find, option_to_list, List, [], ◌∷◌, ◌++◌, replicate, slice_set, slice_index_or, Option, Some, None, unwrap_or}
-use Rattle.frame_pool.specs.Below.{has, PageSize, range_with_len}
-use Rattle.lines.specs.Resident.{taken_out}
+use Rattle.frame_pool.specs.Below.{has, PageSize, range_with_len, taken_out}
 use Rattle.frame_pool.specs.Sizes.{private_frames, frame_count}
 
 -- the resident pages in the order in which they came, the frame of each page, the page of each frame, and the frames of the

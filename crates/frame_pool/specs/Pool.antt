@@ -1,9 +1,8 @@
 -- The pool: the bytes of all frames, the resident pages and their frames, the marked lines, and paging space.
 use Rattle.std.specs.Prelude.{◌≡◌, ℕ, ◌+◌, ◌-◌, ◌*◌, ◌/◌, ◌≤◌, ◌<◌, ◌==◌, nat_lt, not, if◌then◌else◌, List, [], ◌∷◌, length, replicate, find, fold, slice_range, slice_set, slice_index_or, option_to_list, Option, Some, None}
-use Rattle.frame_pool.specs.Below.{between, difference, has, option_map_or, overlaid, page_bytes, PageSize, union}
-use Rattle.lines.specs.Resident.{brought, taken_out}
-use Rattle.frame_pool.specs.Sizes.{private_frames, frame_count, line_size, line_place}
+use Rattle.frame_pool.specs.Below.{between, difference, has, option_map_or, overlaid, page_bytes, PageSize, union, brought, taken_out}
 use Rattle.frame_pool.specs.declared.pool_model.Pool.{Pool}
+use Rattle.frame_pool.specs.Sizes.{private_frames, frame_count, line_size, line_place}
 
 -- a pool with zeros in its frames, no page resident and no line marked
 abbrev pub fresh_pool : PageSize → (frames pages : ℕ) → Pool

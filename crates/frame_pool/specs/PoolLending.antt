@@ -1,9 +1,9 @@
 -- What a pool ends as, where bytes of its frames are lent.
 use Rattle.std.specs.Prelude.{ℕ, ◌+◌, List}
 use Rattle.frame_pool.specs.Below.{Array, Fml, Lends, MutBor, u8}
+use Rattle.frame_pool.specs.declared.pool_model.Pool.{Pool}
 use Rattle.frame_pool.specs.Lending.{with_part}
 use Rattle.frame_pool.specs.Pool.{lines_of_part, marked_in, page_start}
-use Rattle.frame_pool.specs.declared.pool_model.Pool.{Pool}
 use Rattle.frame_pool.specs.contracts.pool.FramePool.{the_row}
 
 -- a pool with bytes of frames written over from a place on

@@ -1,8 +1,8 @@
 -- What a `FramePool` is seen as, and the sizes of its parts.
 use Rattle.std.specs.Prelude.{◌≡◌, ◌*◌, length, vec_len}
 use Rattle.frame_pool.specs.Below.{page_bytes}
-use Rattle.frame_pool.specs.Sizes.{frame_count}
 use Rattle.frame_pool.specs.declared.pool_model.Pool.{Pool}
+use Rattle.frame_pool.specs.Sizes.{frame_count}
 use Rattle.frame_pool.specs.declared.pool.FramePool.TheInside.{Inside}
 
 abbrev pub pool_shown : Inside → Pool

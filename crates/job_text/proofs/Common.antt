@@ -18,7 +18,7 @@ pub use Rattle.asm_parse.specs.Operand.{place_among}
 pub use Rattle.asm_parse.specs.Statement.{is_label, line_meaning, statement_of}
 pub use Rattle.asm_parse.specs.Text.{at_line, is_feed, text_lines, then_statements}
 unfoldable pub use Rattle.asm_parse.specs.Text.{statements_from}
-pub use Rattle.asm_parse.specs.Token.{token_before, begins_word, continues_word, tokens}
+pub use Rattle.asm_parse.specs.Token.{token_before, begins_word, continues_word, kept_tokens, tokens}
 unfoldable pub use Rattle.asm_parse.specs.Token.{tokens_past}
 pub use Rattle.asm_parse.specs.declared.statement.Statement.{Statement}
 pub use Rattle.asm_parse.specs.declared.token.Token.{Token}

@@ -1,4 +1,5 @@
 pub mod Common
+pub mod LongLemmas
 pub mod WrittenFormLemmas
 pub mod LawLemmas
 pub mod FormLemmas

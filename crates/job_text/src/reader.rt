@@ -71,6 +71,7 @@ impl Reader {
     }
 
     /// Reads one line more, whose tokens lie in the room.
+    #[tactic(auto, using(crate::proofs::LongLemmas::line_kept))]
     pub fn line(
         &mut self,
         alloc: Global,

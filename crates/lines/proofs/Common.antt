@@ -1,5 +1,5 @@
 -- The names that most proofs cite, passed on from one place. Declares nothing.
-pub use Rattle.std.proofs.Common.{add-one, ap, arith, inl, inr, lit<, lt_of_lt_of_le, refl, sym, ℕ, ◌∙◌, ◌⊎◌}
+pub use Rattle.std.proofs.Common.{add-one, ap, arith, inl, inr, lit<, lt_of_lt_of_le, refl, sym, ℕ, ◌∙◌, ◌⊎◌, get_or}
 pub use Rattle.std.proofs.lemmas.Bool.Decides.{nat_tests}
 pub use Rattle.std.proofs.lemmas.List.{length-append, length-drop, length-map, length-take, get_or_append_left, get_or-append_right, get_or-take, get_or-drop}
 pub use Rattle.std.proofs.lemmas.List.Sums.{sum_by-cons}

@@ -1,6 +1,5 @@
 -- Elements of a list of which a part is written over.
-use Rattle.std.proofs.Common.{◌≡◌, ℕ, ◌+◌, ◌-◌, ◌<◌, ◌≤◌, List, ◌++◌, length, take, drop, get_or, sym, ◌∙◌, ap, arith, inl, inr}
-use Rattle.lines.proofs.Common.{length-append, length-take, length-drop, get_or_append_left, get_or-append_right, get_or-take, get_or-drop, cases_lt}
+use Rattle.lines.proofs.Common.{length-append, length-take, length-drop, get_or_append_left, get_or-append_right, get_or-take, get_or-drop, cases_lt, ◌≡◌, ℕ, ◌+◌, ◌-◌, ◌<◌, ◌≤◌, List, ◌++◌, length, take, drop, get_or, sym, ◌∙◌, ap, arith, inl, inr}
 use Rattle.lines.specs.Overlay.{overlaid}
 
 -- the length stays

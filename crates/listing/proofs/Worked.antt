@@ -1,8 +1,7 @@
 -- A listing worked out by hand.
-use Rattle.std.specs.Prelude.{◌≡◌, refl, true, [], ◌∷◌, codes, replicate, Some, None}
 use Rattle.std.specs.Fmt.{digits}
 use Rattle.hex.specs.Hex.{encode_with}
-use Rattle.listing.proofs.Common.{listing_of}
+use Rattle.listing.proofs.Common.{listing_of, ◌≡◌, refl, true, [], ◌∷◌, codes, replicate, Some, None}
 
 as_printed :
     listing_of (codes "add") (0xD8 ∷ 0x60 ∷ 0x10 ∷ 0 ∷ 0xCD ∷ 0x36 ∷ 0 ∷ 0 ∷ 0xE1 ∷ 0x32 ∷ 0xDD ∷ 0x36 ∷ 0 ∷ 0 ∷ 0xC0 ∷ 0 ∷ 0 ∷ 0 ∷ []) 0

@@ -1,6 +1,5 @@
 -- Plans of deeds that are carried out one after another.
-use Rattle.outside.proofs.Common.{◌≡◌, inl, inr, List, [], ◌∷◌, ◌++◌, refl, sym, ◌∙◌, ap, subst, append_assoc, append-nil, ⊎_elim, Option, None, Some, Result, Ok, Err, IsErr}
-use Rattle.outside.specs.Deeds.{Deed, broken, EndsBroken, IsCut, Did, Since, DidSome, Carries}
+use Rattle.outside.proofs.Common.{◌≡◌, inl, inr, List, [], ◌∷◌, ◌++◌, refl, sym, ◌∙◌, ap, subst, append_assoc, append-nil, ⊎_elim, Option, None, Some, Result, Ok, Err, IsErr, Deed, broken, EndsBroken, IsCut, Did, Since, DidSome, Carries}
 
 ends_more : (front rest more done : List Deed) → EndsBroken front rest done → EndsBroken front (rest ++ more) done
 ends_more front [] [] done is = is

@@ -1,8 +1,7 @@
 -- Puts, one after another.
-use Rattle.outside.proofs.Common.{◌≡◌, ℕ, ◌+◌, ◌<◌, List, [], ◌∷◌, ◌++◌, length, get_or, take, min, refl, sym, ◌∙◌, ap, subst, append_assoc, append-nil, arith, rules, Option, None, Some, Result, Ok, Err, IsErr, take-append-le, take_min, take_more, Failed, Ghosts, Prints, FewerLater, OnlyPuts, nat_tests}
+use Rattle.outside.proofs.Lemmas.{◌≡◌, ℕ, ◌+◌, ◌<◌, List, [], ◌∷◌, ◌++◌, length, get_or, take, min, refl, sym, ◌∙◌, ap, subst, append_assoc, append-nil, arith, rules, Option, None, Some, Result, Ok, Err, IsErr, take-append-le, take_min, take_more, Failed, Ghosts, Prints, FewerLater, OnlyPuts, nat_tests, elapses-trans}
 use Rattle.std.proofs.Math.Seq.{take-append-add}
 use Rattle.outside.proofs.Counts.{cause_since}
-use Rattle.outside.proofs.Runs.{elapses-trans}
 
 -- the same bytes
 pub prints_same : {T : Type 0} (old new : Option (List ℕ)) (first second : List ℕ) (result : Result T Failed) → first ≡ second → Prints old new first result → Prints old new second result

@@ -1,8 +1,5 @@
 -- Calls that ask the disk, and puts, one after another.
-use Rattle.outside.proofs.Common.{◌≡◌, ⊎_elim, ℕ, List, [], sym, ◌∙◌, ap, subst, arith, Option, IsSome, Result, unwrap_or, Failed, Ghosts, Prints, AsksAndPuts, FewerLater, OnlyAsks, OnlyPuts, held_of, nat_tests}
-use Rattle.outside.specs.Deeds.{Deed}
-use Rattle.outside.specs.Runs.{AsksSo, AsksAndPutsSo}
-use Rattle.outside.proofs.Runs.{elapses-trans}
+use Rattle.outside.proofs.Lemmas.{◌≡◌, ⊎_elim, ℕ, List, [], sym, ◌∙◌, ap, subst, arith, Option, IsSome, Result, unwrap_or, Failed, Ghosts, Prints, AsksAndPuts, FewerLater, OnlyAsks, OnlyPuts, held_of, nat_tests, Deed, AsksSo, AsksAndPutsSo, elapses-trans}
 
 -- a put leaves printed bytes told
 still_told : {T : Type 0} (old new : Option (List ℕ)) (bytes : List ℕ) (result : Result T Failed) → Prints old new bytes result → IsSome old → IsSome new

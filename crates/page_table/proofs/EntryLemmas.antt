@@ -1,9 +1,5 @@
 -- How many entries are of an identifier, where one is set and where those of one are cleared.
-use Rattle.page_table.proofs.Common.{◌≡◌, ℕ, zero, suc, ◌+◌, ◌-◌, ◌<◌, ◌≤◌, Bool, true, false, List, [], ◌∷◌, length, refl, sym, ◌∙◌, ap, arith, subst, ◌==◌, map, cond, slice_index_or, slice_set, nat_tests, get_or-set_same, get_or-set_other, length-set, cleared_entry, replicate, get_or-replicate, length-replicate}
-use Rattle.std.specs.Prelude.{slice_index, if◌then◌else◌}
-use Rattle.page_table.specs.Placed.{unowned}
-use Rattle.page_table.specs.PageEntries.{owned_by}
-use Rattle.page_table.specs.declared.lockbit_rules.Authority.{Authority}
+use Rattle.page_table.proofs.Common.{◌≡◌, ℕ, zero, suc, ◌+◌, ◌-◌, ◌<◌, ◌≤◌, List, [], ◌∷◌, length, refl, ◌∙◌, ap, arith, ◌==◌, map, cond, slice_index_or, slice_set, nat_tests, get_or-set_same, get_or-set_other, length-set, cleared_entry, replicate, get_or-replicate, length-replicate, slice_index, if◌then◌else◌, unowned, owned_by, Authority}
 
 -- one that is set counts for its identifier in place of the one before it
 pub count-set :

@@ -1,11 +1,17 @@
--- What a tag and a line that are written leave of what is known.
-use Rattle.page_table.proofs.Common.{◌≡◌, ℕ, false, List, arith, None, cases_lt, nat_tests, get_or-replicate, get_or_past, length-replicate, slice_index_or, replicate, line_in}
-use Rattle.page_table.specs.declared.open_lines.OpenLine.{OpenLine}
+-- Tags that are zeros.
+use Rattle.std.proofs.Common.{replicate}
+use Rattle.page_table.proofs.Common.{◌≡◌, ℕ, List, None, ◌≤◌, ◌<◌, inl, inr, arith, nat_tests, get_or-replicate, get_or_past, length-replicate, cases_lt, line_in}
+use Rattle.std.specs.Prelude.{slice_index, ◌^◌}
 use Rattle.page_table.specs.LinePlaces.{block_place}
 
--- where no place has one none is
-none-at : (n place : ℕ) → slice_index_or (replicate n false) place false ≡ false
-none-at n place = grind (arith, nat_tests, cases_lt, get_or-replicate, get_or_past, length-replicate)
+-- each tag is zero
+pub zero-at : (n k : ℕ) → slice_index (replicate n 0) k ≡ 0
+zero-at n k = elim (cases_lt k n) [ inl below ↦ get_or-replicate n k 0 0 below | inr past ↦ get_or_past (replicate n 0) k 0 (omega (arith, past, length-replicate {A = ℕ} n 0)) ]
 
-pub line_in-none : (n : ℕ) (tags : List ℕ) (lines : List OpenLine) (block : ℕ) → line_in (replicate n false) tags lines block ≡ None
-line_in-none n tags lines block = grind (arith, nat_tests, none-at n (block_place block))
+-- which is no time
+pub none-at : (time block : ℕ) (spots : List ℕ) → 2 ^ 32 ≤ time → line_in time (replicate 64 0) spots block ≡ None
+none-at time block spots begun = grind (arith, nat_tests, zero-at 64 (block_place block))
+
+-- nor is a tag of an earlier one
+pub none-before : (time block : ℕ) (tags spots : List ℕ) → ((place : ℕ) → slice_index tags place < time) → line_in time tags spots block ≡ None
+none-before time block tags spots past = grind (arith, nat_tests, past (block_place block))

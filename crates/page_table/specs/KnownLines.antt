@@ -1,26 +1,22 @@
 -- The lines that are known, by their blocks of 128 addresses.
-use Rattle.std.specs.Prelude.{◌≡◌, ℕ, ◌==◌, ◌&&◌, if◌then◌else◌, Bool, false, List, slice_index, slice_index_or, Option, Some, None}
+use Rattle.std.specs.Prelude.{◌≡◌, ℕ, ◌+◌, ◌==◌, ◌&&◌, not, if◌then◌else◌, Bool, List, slice_index, Option, Some, None}
 use Rattle.page_table.specs.LinePlaces.{block_place}
-use Rattle.page_table.specs.declared.open_lines.OpenLine.{OpenLine}
 use Rattle.page_table.specs.declared.open_lines.OpenLines.{OpenLines}
 
--- what stands at a place that has no line
-abbrev pub unopened : OpenLine
-unopened = record { first = record { segment = 0; page = 0; byte = 0 }; frame = 0; spot = 0; write = false }
+-- the spot at a block, if its place has the block's number and this time for a tag
+abbrev pub line_in : (time : ℕ) → (tags spots : List ℕ) → (block : ℕ) → Option ℕ
+line_in time tags spots block = if slice_index tags (block_place block) == time + block then Some (slice_index spots (block_place block)) else None
 
--- the line at a block, if its place has one with the block for a tag
-abbrev pub line_in : List Bool → (tags : List ℕ) → List OpenLine → (block : ℕ) → Option OpenLine
-line_in flags tags lines block =
-    if slice_index_or flags (block_place block) false && slice_index tags (block_place block) == block then Some (slice_index_or lines (block_place block) unopened) else None
-
--- the line that is known at a block
-unfoldable pub known : OpenLines → (block : ℕ) → Option OpenLine
-known lines block = line_in lines.held lines.tags lines.lines block
+-- the spot of the line that is known at a block, to be stored to or to be loaded
+unfoldable pub known : OpenLines → (store : Bool) → (block : ℕ) → Option ℕ
+known lines store block = line_in lines.time (if store then lines.stores else lines.loads) lines.spots block
 
 -- no line is known
 abbrev pub KnowsNoLine : OpenLines → Type 0
-KnowsNoLine lines = (block : ℕ) → known lines block ≡ None
+KnowsNoLine lines = (store : Bool) (block : ℕ) → known lines store block ≡ None
 
--- what is known at a block after a line was kept at one: that line, nothing elsewhere in its place, and all else as before
-abbrev pub with_known_line : (at : ℕ) → OpenLine → (block : ℕ) → Option OpenLine → Option OpenLine
-with_known_line at line block before = if block == at then Some line else (if block_place block == block_place at then None else before)
+-- what is known at a block after a line was kept at one: that line, to be stored to where it may be, nothing elsewhere in its place, and all
+-- else as before
+abbrev pub with_known_line : (at spot : ℕ) → (write store : Bool) → (block : ℕ) → Option ℕ → Option ℕ
+with_known_line at spot write store block before =
+    if block_place block == block_place at then (if block == at && not (store && not write) then Some spot else None) else before

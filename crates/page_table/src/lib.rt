@@ -14,6 +14,6 @@ mod tlb_model;
 pub use inverted_table::Table;
 pub use key::Key;
 pub use lockbit_rules::Authority;
-pub use open_lines::{OpenLine, OpenLines};
+pub use open_lines::OpenLines;
 pub use segment_regs::{Check, SegmentRegister, SegmentRegs, Virtual, virtual_at};
 pub use tlb_model::{Pair, Tlb};

@@ -1,28 +1,28 @@
-ghost use Rattle.std.specs.Prelude.{◌≡◌, ◌<◌, ℕ, ◌/◌, ◌^◌, length};
+ghost use Rattle.std.specs.Prelude.{◌≡◌, ◌<◌, ◌≤◌, ℕ, Bool, ◌/◌, ◌+◌, ◌%◌, ◌^◌, length, slice_index, true};
 ghost use Rattle.page_table.specs.LinePlaces.{block_place};
 
-use super::segment_regs::Virtual;
+/// The last time, at which no line is kept.
+const LAST: u64 = 0x8000_0000_0000_0000;
 
-/// The 128 bytes at the addresses of a block: where the first of them lies, the frame that has them, the spot of the first
-/// among the bytes of all frames, and whether they are to be stored or only to be loaded.
-#[derive(Clone, Copy)]
-pub struct OpenLine {
-    pub first: Virtual,
-    pub frame: u16,
-    pub spot: u32,
-    pub write: bool,
-}
-
-/// Open lines, each at one of 64 places by its block of 128 addresses (`place_of`). A place tells whether it
-/// has a line, and has its block's number for a tag.
+/// Open lines, each at one of 64 places by its block of 128 addresses (`place_of`), with the spot of its first byte among the
+/// bytes of all frames. It is known by a tag, which is its block's number and the time at which it was kept, and by another
+/// one where it may be stored to. To forget all of them is another time.
 #[derive(Drop)]
 pub struct OpenLines {
-    held: [bool; 64],
-    tags: [u32; 64],
-    lines: [OpenLine; 64],
-    ghost held_sized: { length held ≡ 64 },
-    ghost tags_sized: { length tags ≡ 64 },
-    ghost lines_sized: { length lines ≡ 64 },
+    time: u64,
+    loads: [u64; 64],
+    stores: [u64; 64],
+    spots: [u32; 64],
+    ghost loads_sized: { length loads ≡ 64 },
+    ghost stores_sized: { length stores ≡ 64 },
+    ghost spots_sized: { length spots ≡ 64 },
+    ghost begun: { 2 ^ 32 ≤ time },
+    ghost ended: { time ≤ 2 ^ 63 },
+    ghost whole: { time % 2 ^ 32 ≡ 0 },
+    ghost loads_past: { (place : ℕ) → slice_index loads place < time + 2 ^ 32 },
+    ghost stores_past: { (place : ℕ) → slice_index stores place < time + 2 ^ 32 },
+    ghost loads_low: { (place : ℕ) → slice_index loads place < 2 ^ 63 },
+    ghost stores_low: { (place : ℕ) → slice_index stores place < 2 ^ 63 },
 }
 
 impl OpenLines {
@@ -33,47 +33,45 @@ impl OpenLines {
     pub fn new() -> OpenLines
         ensures { KnowsNoLine result }
     {
-        let none = OpenLine {
-            first: Virtual {
-                segment: 0,
-                page: 0,
-                byte: 0,
-            },
-            frame: 0,
-            spot: 0,
-            write: false,
-        };
         OpenLines {
-            held: [false; 64],
-            tags: [0; 64],
-            lines: [none; 64],
+            time: 0x1_0000_0000,
+            loads: [0; 64],
+            stores: [0; 64],
+            spots: [0; 64],
         }
     }
 
-    /// The line that is known at an address.
+    /// The spot of the line that is known at a block, to be stored to where that is asked.
     #[tactic(auto, unfolding(crate::specs::KnownLines::known))]
-    #[inline]
-    pub fn at(&self, address: u32) -> Option<OpenLine>
-        ensures { result ≡ known self.now (address / 128) }
+    #[inline(always)]
+    pub fn at(&self, block: u32, store: bool) -> Option<u32>
+        ensures { result ≡ known self.now store block }
     {
-        let place = place_of(address / 128);
-        if self.held[place] && self.tags[place] == address / 128 {
-            Some(self.lines[place])
+        let place = place_of(block);
+        let tag = if store {
+            self.stores[place]
+        } else {
+            self.loads[place]
+        };
+        if tag == self.time + u64::from(block) {
+            Some(self.spots[place])
         } else {
             None
         }
     }
 
-    /// A line is known at an address from now on. The one that was at its place is forgotten.
+    /// A line is known at an address from now on, to be stored to where that is told. The one that was at its place is forgotten.
     #[tactic(auto, unfolding(crate::specs::KnownLines::known))]
     #[inline]
-    pub fn keep(&mut self, address: u32, line: OpenLine)
-        ensures { (at : ℕ) → known self.new at ≡ with_known_line (address / 128) line at (known self.old at) }
+    pub fn keep(&mut self, address: u32, spot: u32, write: bool)
+        ensures { (store : Bool) (at : ℕ) → known self.new store at ≡ with_known_line (address / 128) spot write store at (known self.old store at) }
     {
+        self.begin_again();
         let place = place_of(address / 128);
-        self.held[place] = true;
-        self.tags[place] = address / 128;
-        self.lines[place] = line;
+        let tag = self.time + u64::from(address / 128);
+        self.spots[place] = spot;
+        self.loads[place] = tag;
+        self.stores[place] = if write { tag } else { 0 };
     }
 
     /// No line is known any more.
@@ -82,16 +80,29 @@ impl OpenLines {
     pub fn forget(&mut self)
         ensures { KnowsNoLine self.new }
     {
-        self.held = [false; 64];
+        self.time = (self.time + 0x1_0000_0000).min(LAST);
+    }
+
+    /// The time isn't the last one, and what is known stays.
+    #[tactic(auto, unfolding(crate::specs::KnownLines::known))]
+    #[inline]
+    fn begin_again(&mut self)
+        ensures early { self.new.time < 2 ^ 63 }
+        ensures known { (store : Bool) (at : ℕ) → known self.new store at ≡ known self.old store at }
+    {
+        if self.time == LAST {
+            self.time = 0x1_0000_0000;
+            self.loads = [0; 64];
+            self.stores = [0; 64];
+        }
     }
 }
 
 /// The place of the line at a block.
 #[inline(always)]
 fn place_of(block: u32) -> usize
-    requires { block < 2 ^ 25 }
     ensures value { result ≡ block_place block }
     ensures few { result < 64 }
 {
-    ((block + block / 0x20_0000) % 64) as usize
+    ((block % 64 + block / 0x20_0000) % 64) as usize
 }

@@ -1,50 +1,79 @@
--- What a tag and a row that are written leave of what is known.
-use Rattle.std.proofs.Common.{Bool, subst, ◌≡◌, ◌≢◌, ℕ, zero, suc, ◌+◌, ◌<◌, ◌≤◌, ◌∙◌, List, [], ◌∷◌, length, refl, sym, ap, arith, true, false, Some, None, ◌⊎◌, inl, inr}
-use Rattle.std.proofs.lemmas.Bool.{cases_eq, cases_lt, eqb-true}
+-- What a place that is written leaves of what is known.
+use Rattle.std.proofs.Common.{Bool, subst, ◌≡◌, ◌≢◌, ℕ, zero, suc, ◌+◌, ◌<◌, ◌≤◌, ◌∙◌, List, [], ◌∷◌, length, refl, sym, ap, arith, lit<, true, false, Some, None, ◌⊎◌, inl, inr}
+use Rattle.std.proofs.lemmas.Bool.{cases_lt}
 use Rattle.std.proofs.lemmas.Bool.Decides.{nat_tests}
-use Rattle.std.proofs.lemmas.List.{get_or-set_other, get_or-set_same, length-set, get_or_read_under, get_or-replicate, get_or_past, length-replicate}
-use Rattle.std.proofs.lemmas.Option.{slice_get-get_or, slice_get_read}
-use Rattle.std.specs.Prelude.{Option, slice_get, slice_index, slice_index_or, slice_set, cond, max, replicate, ◌/◌, ◌%◌, ◌-◌, ◌==◌}
+use Rattle.std.proofs.lemmas.List.{get_or-set_same, length-set, length-replicate}
+use Rattle.std.proofs.lemmas.Option.{slice_get-get_or}
+use Rattle.std.specs.Prelude.{Option, slice_get, slice_set, cond, replicate, ◌/◌, ◌%◌, ◌-◌, ◌==◌}
 use Rattle.flat_machine.specs.declared.ready.Ready.{Ready}
-use Rattle.ready_rows.specs.Tags.{is_tag_met}
-use Rattle.ready_rows.specs.Known.{row_place, row_in, unless_met, with_row, with_place}
+use Rattle.ready_rows.specs.declared.place.Place.{Place}
+use Rattle.ready_rows.specs.Places.{overlaps, row_if, row_in, row_place}
+use Rattle.ready_rows.specs.Known.{unless_met, with_row, with_place, without_place}
 
-get-set_same : (rows : List Ready) (place : ℕ) (row : Ready) → place < length rows → slice_get (slice_set rows place row) place ≡ Some row
-get-set_same rows place row inside =
-    slice_get-get_or (slice_set rows place row) place row (omega (arith, length-set rows place row)) ∙ ap Some (get_or-set_same rows place row row inside)
+get-set_same : (places : List Place) (index : ℕ) (place : Place) → index < length places → slice_get (slice_set places index place) index ≡ Some place
+get-set_same places index place inside =
+    slice_get-get_or (slice_set places index place) index place (omega (arith, length-set places index place)) ∙ ap Some (get_or-set_same places index place place inside)
 
-get-set_other : (rows : List Ready) (place other : ℕ) (row : Ready) → other ≢ place → slice_get (slice_set rows place row) other ≡ slice_get rows other
-get-set_other [] place other row apart = refl
-get-set_other (x ∷ rows) zero zero row apart = absurd (apart refl)
-get-set_other (x ∷ rows) zero (suc other) row apart = refl
-get-set_other (x ∷ rows) (suc place) zero row apart = refl
-get-set_other (x ∷ rows) (suc place) (suc other) row apart = get-set_other rows place other row (λ same. apart (ap suc same))
+get-set_other : (places : List Place) (index other : ℕ) (place : Place) → other ≢ index → slice_get (slice_set places index place) other ≡ slice_get places other
+get-set_other [] index other place apart = refl
+get-set_other (x ∷ places) zero zero place apart = absurd (apart refl)
+get-set_other (x ∷ places) zero (suc other) place apart = refl
+get-set_other (x ∷ places) (suc index) zero place apart = refl
+get-set_other (x ∷ places) (suc index) (suc other) place apart = get-set_other places index other place (λ same. apart (ap suc same))
 
 -- a row is known from now on
 pub row_in-kept :
-    (tags : List ℕ) (rows : List Ready) (at : ℕ) (row : Ready) (other : ℕ) → length tags ≡ 512 → length rows ≡ 512
-    → row_in (slice_set tags (row_place at) (at + 1)) (slice_set rows (row_place at) row) other ≡ with_row at row other (row_in tags rows other)
-row_in-kept tags rows at row other tagged sized = grind (arith, nat_tests, get-set_same, get-set_other, get_or-set_same, get_or-set_other)
+    (places : List Place) (place : Place) (other : ℕ) → length places ≡ 512
+    → row_in (slice_set places (row_place place.at) place) other ≡ with_row place.at place.row other (row_in places other)
+row_in-kept places place other sized = grind (arith, nat_tests, get-set_same, get-set_other)
+
+-- a place has an address that is found elsewhere, so no row
+pub row_in-emptied :
+    (places : List Place) (index : ℕ) (place : Place) (other : ℕ) → length places ≡ 512 → index < 512 → row_place place.at ≢ index
+    → row_in (slice_set places index place) other ≡ without_place index other (row_in places other)
+row_in-emptied places index place other sized below apart = grind (arith, nat_tests, get-set_same, get-set_other)
+
+-- of places that have all address 0, and of the first of them another, none has a row
+get-replicate : (n k : ℕ) (place : Place) → (slice_get (replicate n place) k ≡ Some place) ⊎ (slice_get (replicate n place) k ≡ None)
+get-replicate zero k place = inr refl
+get-replicate (suc n) zero place = inl refl
+get-replicate (suc n) (suc k) place = get-replicate n k place
+
+elsewhere-none :
+    (got : Option Place) (place : Place) (address : ℕ) → (got ≡ Some place) ⊎ (got ≡ None) → place.at ≡ 0
+    → without_place 0 address (row_if address got) ≡ None
+elsewhere-none got place address (inl some) low = rw some (by_test (place.at == address) refl)
+  where
+    by_test : (b : Bool) → (place.at == address) ≡ b → without_place 0 address (cond b (Some place.row) None) ≡ None
+    by_test true same = grind (arith, nat_tests)
+    by_test false apart = grind (arith, nat_tests)
+elsewhere-none got place address (inr none) low = rw none (grind (arith, nat_tests))
+
+pub row_in-none :
+    (places : List Place) (place other : Place) → places ≡ replicate 512 place → place.at ≡ 0 → row_place other.at ≢ 0
+    → (address : ℕ) → row_in (slice_set places 0 other) address ≡ None
+row_in-none places place other all low apart address =
+    row_in-emptied places 0 other address (ap length all ∙ length-replicate {A = Place} 512 place) (lit< tt) apart
+    ∙ elsewhere-none (slice_get places (row_place address)) place address
+    (subst (λ (list : List Place). (slice_get list (row_place address) ≡ Some place) ⊎ (slice_get list (row_place address) ≡ None)) (sym all) (get-replicate 512 (row_place address) place))
+    low
+
+pub none-at : (known : Option Ready) (row : Ready) (address : ℕ) → known ≡ None → known ≡ Some row → address < 0
+none-at known row address none some = absurd (cc)
 
 -- a place loses a row that some bytes meet
 pub row_in-dropped :
-    (tags : List ℕ) (rows : List Ready) (place offset bytes tag : ℕ) (row : Ready) (other : ℕ) → length tags ≡ 512 → length rows ≡ 512 → place < 512
-    → tag ≡ slice_index_or tags place tag → row ≡ slice_index_or rows place row → is_tag_met tag row offset bytes ≡ true
-    → row_in (slice_set tags place 0) rows other ≡ with_place place offset bytes other (row_in tags rows other)
-row_in-dropped tags rows place offset bytes tag row other tagged sized below tag_is row_is met =
-    let here : tag ≡ slice_index tags place = get_or_read_under tags place 512 tag 0 tag_is below (sym tagged) in
-    let there : slice_get rows place ≡ Some row = slice_get_read rows 512 place row (sym sized) below row_is in
-    grind (arith, nat_tests, get_or-set_same, get_or-set_other)
+    (places : List Place) (index offset bytes : ℕ) (place : Place) (other : ℕ) → slice_get places index ≡ Some place
+    → overlaps offset bytes place.at place.row ≡ true
+    → without_place index other (row_in places other) ≡ with_place index offset bytes other (row_in places other)
+row_in-dropped places index offset bytes place other there met = grind (arith, nat_tests)
 
 -- a place keeps one that they don't meet
 pub row_in-stays :
-    (tags : List ℕ) (rows : List Ready) (place offset bytes tag : ℕ) (row : Ready) (other : ℕ) → length tags ≡ 512 → length rows ≡ 512 → place < 512
-    → tag ≡ slice_index_or tags place tag → row ≡ slice_index_or rows place row → is_tag_met tag row offset bytes ≡ false
-    → row_in tags rows other ≡ with_place place offset bytes other (row_in tags rows other)
-row_in-stays tags rows place offset bytes tag row other tagged sized below tag_is row_is apart =
-    let here : tag ≡ slice_index tags place = get_or_read_under tags place 512 tag 0 tag_is below (sym tagged) in
-    let there : slice_get rows place ≡ Some row = slice_get_read rows 512 place row (sym sized) below row_is in
-    grind (arith, nat_tests)
+    (places : List Place) (index offset bytes : ℕ) (place : Place) (other : ℕ) → slice_get places index ≡ Some place
+    → overlaps offset bytes place.at place.row ≡ false
+    → row_in places other ≡ with_place index offset bytes other (row_in places other)
+row_in-stays places index offset bytes place other there apart = grind (arith, nat_tests)
 
 -- what is known at an address on the way through the halves of addresses: as before or already as it ends, and as it ends where the way has passed
 pub record IsOnWay (first half offset bytes address : ℕ) (before now : Option Ready) : Type 0 where
@@ -106,35 +135,14 @@ on_way-ends first half offset bytes address before now way from to = by_first (c
     by_first (inl early) = as_was way.some (unmet offset bytes address before (inr (omega arith)))
     by_first (inr there) = by_half (cases_lt (address / 2) half) there
 
--- tags stay below the top
-pub set-below : (tags : List ℕ) (place tag top : ℕ) → ((other : ℕ) → slice_index tags other ≤ top) → place < length tags → (other : ℕ) → slice_index (slice_set tags place tag) other ≤ max top tag
-set-below tags place tag top below inside other = elim (cases_eq other place) [
-  | inl same ↦ omega (arith, ap (slice_index (slice_set tags place tag)) same, get_or-set_same tags place tag 0 inside)
-  | inr apart ↦ omega (arith, get_or-set_other tags place other tag 0 apart, below other)
-]
-
--- no row is met by bytes behind all tags
+-- no row is met by bytes behind all rows
 pub above-top :
-    (tags : List ℕ) (rows : List Ready) (top offset bytes address : ℕ) → ((place : ℕ) → slice_index tags place ≤ top) → top ≤ offset - 3
-    → row_in tags rows address ≡ unless_met offset bytes address (row_in tags rows address)
-above-top tags rows top offset bytes address below past = by_row (row_in tags rows address) refl
-  where
-    tag_is : (row : Ready) (b : Bool) → (slice_index tags (row_place address) == address + 1) ≡ b → cond b (slice_get rows (row_place address)) None ≡ Some row → slice_index tags (row_place address) ≡ address + 1
-    tag_is row true same is = eqb-true (slice_index tags (row_place address)) (address + 1) same
-    tag_is row false same is = absurd (cc)
+    (known : Option Ready) (top offset bytes address : ℕ) → ((row : Ready) → known ≡ Some row → address < top) → top ≤ offset - 3
+    → known ≡ unless_met offset bytes address known
+above-top None top offset bytes address below past = refl
+above-top (Some row) top offset bytes address below past = sym (unmet offset bytes address (Some row) (inr (omega (arith, below row refl))))
 
-    by_row : (o : Option Ready) → row_in tags rows address ≡ o → o ≡ unless_met offset bytes address o
-    by_row None is = refl
-    by_row (Some row) is =
-        sym (unmet offset bytes address (Some row) (inr (omega (arith, past, below (row_place address), tag_is row (slice_index tags (row_place address) == address + 1) refl is))))
-
--- where all tags are zeros none is above any top
-pub zeros-below : (tags : List ℕ) (n : ℕ) → tags ≡ replicate n 0 → (place : ℕ) → slice_index tags place ≤ 0
-zeros-below tags n zeros place = elim (cases_lt place n) [
-  | inl inside ↦ omega (arith, ap (λ (list : List ℕ). slice_index list place) zeros, get_or-replicate {A = ℕ} n place 0 0 inside)
-  | inr past ↦ omega (arith, get_or_past tags place 0 (omega (arith, past, ap length zeros, length-replicate {A = ℕ} n 0)))
-]
-
--- and none has a row
-pub none-below : (tags : List ℕ) (rows : List Ready) (top : ℕ) → top ≡ 0 → ((place : ℕ) → slice_index tags place ≤ top) → (address : ℕ) → row_in tags rows address ≡ None
-none-below tags rows top none below address = let low : slice_index tags (row_place address) ≤ top = below (row_place address) in grind (arith, nat_tests)
+-- rows below a top that were emptied place by place up to behind it are all gone
+pub record IsEmptiedTo (index address : ℕ) (before now : Option Ready) : Type 0 where
+  pub was : (row : Ready) → now ≡ Some row → before ≡ Some row
+  pub behind : (row : Ready) → now ≡ Some row → index ≤ row_place address

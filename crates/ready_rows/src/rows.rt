@@ -1,23 +1,22 @@
-ghost use Rattle.std.specs.Prelude.{◌≡◌, ℕ, ◌+◌, ◌≤◌, ◌<◌, option_map, slice_index, vec_len, IfOk};
-ghost use Rattle.ready_rows.specs.Tags.{is_tag_met};
+ghost use Rattle.std.specs.Prelude.{◌≡◌, ◌≢◌, ℕ, ◌+◌, ◌≤◌, ◌<◌, Some, option_map, vec_len, IfOk};
+ghost use Rattle.flat_machine.specs.declared.ready.Ready.{Ready};
+ghost use Rattle.ready_rows.specs.Places.{overlaps, row_in, row_place};
 
+use super::place::Place;
 use flat_machine::{Doing, Ready};
 use std::alloc::{AllocError, Global};
 
-/// Rows made ready, each at one of 512 places by its address. A place has the address and one for a tag, or 0 where it has
-/// no row. No tag is above the top.
+/// Rows made ready, each at one of 512 places by its address. No row that is known is behind the top.
 #[derive(Drop)]
 pub struct ReadyRows {
-    tags: Vec<u16>,
-    rows: Vec<Ready>,
+    places: Vec<Place>,
     top: u32,
-    ghost tags_sized: { vec_len tags ≡ 512 },
-    ghost rows_sized: { vec_len rows ≡ 512 },
-    ghost below: { (place : ℕ) → slice_index tags.items place ≤ top },
+    ghost sized: { vec_len places ≡ 512 },
+    ghost below: { (address : ℕ) (row : Ready) → row_in places.items address ≡ Some row → address < top },
 }
 
 impl ReadyRows {
-    ghost use Rattle.ready_rows.specs.Known.{known, KnowsNoRow, unless_met, with_row, with_place};
+    ghost use Rattle.ready_rows.specs.Known.{known, KnowsNoRow, unless_met, with_row, with_place, without_place};
 
     /// No row is known. It takes all memory that will be needed.
     ///
@@ -28,18 +27,16 @@ impl ReadyRows {
     pub fn new(alloc: Global) -> Result<ReadyRows, AllocError>
         ensures { IfOk result KnowsNoRow }
     {
-        let none = Ready {
+        let row = Ready {
             doing: Doing::Stay,
             bytes: 2,
             b: 0,
             c: 0,
             i: 0,
         };
-        Ok(ReadyRows {
-            tags: vec![in alloc; 0; 512]?,
-            rows: vec![in alloc; none; 512]?,
-            top: 0,
-        })
+        let mut places = vec![in alloc; Place { row, at: 0 }; 512]?;
+        places[0].at = elsewhere(0);
+        Ok(ReadyRows { places, top: 0 })
     }
 
     /// The row that is known at an address.
@@ -48,9 +45,9 @@ impl ReadyRows {
     pub fn at(&self, address: u32) -> Option<&Ready>
         ensures { option_map (λ row. row.now) result ≡ known self.now address }
     {
-        let place = (address / 2 % 512) as usize;
-        if usize::from(self.tags[place]) == address as usize + 1 {
-            Some(&self.rows[place])
+        let place = &self.places[(address / 2 % 512) as usize];
+        if place.at == u64::from(address) {
+            Some(&place.row)
         } else {
             None
         }
@@ -63,9 +60,8 @@ impl ReadyRows {
         requires { address < 16384 }
         ensures { (other : ℕ) → known self.new other ≡ with_row address row other (known self.old other) }
     {
-        let place = (address / 2 % 512) as usize;
-        self.tags[place] = address as u16 + 1;
-        self.rows[place] = row;
+        let at = u64::from(address);
+        self.places[(address / 2 % 512) as usize] = Place { row, at };
         self.top = self.top.max(address + 1);
     }
 
@@ -78,7 +74,10 @@ impl ReadyRows {
         if self.top == 0 {
             return;
         }
-        self.tags.fill(0);
+        let used = (self.top / 2 + 1).min(512);
+        for index in 0..used {
+            self.empty(index);
+        }
         self.top = 0;
     }
 
@@ -111,25 +110,44 @@ impl ReadyRows {
     /// The same of the row at a place.
     #[tactic(auto, unfolding(crate::specs::Known::known))]
     #[inline(always)]
-    fn drop_place(&mut self, place: u32, offset: u32, bytes: u32)
-        requires place { place < 512 }
+    fn drop_place(&mut self, index: u32, offset: u32, bytes: u32)
+        requires place { index < 512 }
         requires few { offset + bytes ≤ 16384 }
-        ensures { (address : ℕ) → known self.new address ≡ with_place place offset bytes address (known self.old address) }
+        ensures { (address : ℕ) → known self.new address ≡ with_place index offset bytes address (known self.old address) }
     {
-        let index = place as usize;
-        if is_tag_met(self.tags[index], &self.rows[index], offset, bytes) {
-            self.tags[index] = 0;
+        let place = self.places[index as usize];
+        if is_met(place.at, &place.row, offset, bytes) {
+            self.empty(index);
         }
+    }
+
+    /// A place has no row.
+    #[inline(always)]
+    fn empty(&mut self, index: u32)
+        requires { index < 512 }
+        ensures known { (address : ℕ) → known self.new address ≡ without_place index address (known self.old address) }
+        ensures top { self.new.top ≡ self.old.top }
+    {
+        self.places[index as usize].at = elsewhere(index);
     }
 }
 
-/// Whether the row of a tag has one of so many bytes from an offset on. A row of two bytes is looked at only where one of
+/// An address that is found at another place.
+fn elsewhere(index: u32) -> u64
+    ensures apart { row_place result ≢ index }
+    ensures low { result < 16384 }
+{
+    if index == 0 { 2 } else { 0 }
+}
+
+/// Whether the row at an address has one of so many bytes from an offset on. A row of two bytes is looked at only where one of
 /// four would have one of them.
 #[inline(always)]
-fn is_tag_met(tag: u16, row: &Ready, offset: u32, bytes: u32) -> bool
-    requires { offset + bytes ≤ 16384 }
-    ensures { result ≡ is_tag_met tag row.now offset bytes }
+fn is_met(at: u64, row: &Ready, offset: u32, bytes: u32) -> bool
+    requires few { offset + bytes ≤ 16384 }
+    requires low { at < 16384 }
+    ensures { result ≡ overlaps offset bytes at row.now }
 {
-    let past = (u32::from(tag) + 2).wrapping_sub(offset);
-    past <= bytes + 2 && (past > 1 || row.is_long())
+    let past = (at + 3).wrapping_sub(u64::from(offset));
+    past <= u64::from(bytes) + 2 && (past > 1 || row.is_long())
 }

@@ -8,7 +8,7 @@ pub use Rattle.std.proofs.lemmas.List.FromFn.{fill_by_all, get_or-map-range_with
 pub use Rattle.std.specs.Option.{option_map_or, option_or}
 pub use Rattle.std.specs.Prelude.{All, Bool, Err, IsTrue, List, None, Ok, Option, Result, Some, [], cond, false, find, nat_le, nat_lt, not, option_map, refl, slice_index, slice_index_or, suc, true, zero, ℕ, ◌%◌, ◌&&◌, ◌+◌, ◌/◌, ◌<◌, ◌==◌, ◌^◌, ◌||◌, ◌∷◌, ◌≡◌, ◌≤◌, length, slice_range, ◌++◌}
 pub use Rattle.byteorder.specs.Endian.{big_bytes, big_number}
-pub use Rattle.flat_machine.specs.Pending.{IsSoundPending, StaysIfWanting, planned, StaysIfPending}
+pub use Rattle.flat_machine.specs.Pending.{IsSoundPending, StaysIfWanting, pending_of, planned, StaysIfPending}
 pub use Rattle.flat_machine.specs.Row.{in_register, in_segment, in_window, plan, stored_bytes}
 pub use Rattle.flat_machine.specs.declared.machine.Act.{Act}
 pub use Rattle.flat_machine.specs.declared.machine.Cs.{Cs}
@@ -27,7 +27,7 @@ pub use Rattle.romp_cpu.specs.Answers.{IsOutside, answer_in, answered, answered_
 pub use Rattle.romp_cpu.specs.Attempts.{ChecksAlike, GivesAll, GivesBy, GivesEveryRow, GivesOver, GivesPlan, IsCpuOf, ShowsSame, StoresAll, TouchesAccess, UndoesUnlessWent, access_of, access_of_plan, bytes_in, stored_by, lines_of_access, access_place}
 pub use Rattle.romp_cpu.specs.Segments.{register_of_window, registers_of_program}
 pub use Rattle.romp_cpu.specs.Shown.{access_to, bytes_from, halfword_of}
-pub use Rattle.romp_cpu.specs.Tried.{at, how_went, IsDoneIf, link_set, refused_by, Seen, seen_in, Tried, tried, tried_act, undone, unless_refused}
+pub use Rattle.romp_cpu.specs.Tried.{at, how_went, link_set, refused_by, Seen, seen_in, Tried, tried, tried_act, undone, unless_refused}
 pub use Rattle.romp_cpu.specs.declared.cpu.Attempt.{Attempt}
 pub use Rattle.romp_cpu.specs.declared.cpu.Cpu.{Cpu}
 pub use Rattle.romp_cpu.specs.declared.storage.Access.{Access}

@@ -1,5 +1,5 @@
 -- An attempt over a storage, beside the row of a plain state that agrees with it.
-use Rattle.std.specs.Prelude.{◌≡◌, ℕ, ◌+◌, ◌<◌, ◌≤◌, if◌then◌else◌, Bool, true, false, List, [], ◌∷◌, ◌++◌, length, slice_range, Option, Some, None}
+use Rattle.std.specs.Prelude.{◌≡◌, ℕ, ◌+◌, ◌<◌, ◌≤◌, if◌then◌else◌, true, false, List, [], ◌∷◌, ◌++◌, length, slice_range, Option, Some, None}
 use Rattle.std.specs.Option.{option_map_or}
 use Rattle.lines.specs.Directory.{Layout}
 use Rattle.lines.specs.Conflicts.{Lines, no_lines}
@@ -18,7 +18,7 @@ use Rattle.romp_cpu.specs.declared.storage.Probe.{Probe}
 use Rattle.romp_cpu.specs.Shown.{access_to, halfword_of}
 use Rattle.romp_cpu.specs.declared.storage.Storage.{Ghosts}
 use Rattle.romp_cpu.specs.Answers.{answer_in}
-use Rattle.romp_cpu.specs.Tried.{IsDoneIf, Seen, seen_in, Tried, tried, tried_act}
+use Rattle.romp_cpu.specs.Tried.{Seen, seen_in, Tried, tried, tried_act}
 
 -- the plan of a processor's next instruction, from the bytes that are shown
 abbrev pub next_plan : (byte_at : ℕ → ℕ) → Cpu → Plan
@@ -46,10 +46,6 @@ pub record TriesAct {S State : Type 0} (G : Ghosts S State)
     (before after : S) (old new : Cpu) (act : Act) (next : ℕ) (link : Option (ℕ × ℕ)) (attempt : Attempt) : Type 0 where
   pub tried : left_as G attempt new after ≡ tried_act (seen_of G before) old act old.regs old.cs next link
   pub few : IsOfFewBytes attempt
-
--- so it does it at once, where that is answered, and else nothing
-abbrev pub DoesIf : {S State : Type 0} (G : Ghosts S State) (before after : S) (old new : Cpu) → Act → (next : ℕ) → Option (ℕ × ℕ) → Bool → Type 0
-DoesIf G before after old new act next link did = IsDoneIf did (seen_of G before) old (Does old.regs old.cs act next link) new (G.state after)
 
 -- an attempt does what the plan of the next instruction says
 abbrev pub TriesNext : {S State : Type 0} (G : Ghosts S State) (before after : S) (old new : Cpu) → Attempt → Type 0

@@ -1,5 +1,5 @@
 -- What one attempt does, by the plan of the instruction and the answer of the storage.
-use Rattle.std.specs.Prelude.{◌≡◌, ℕ, ◌+◌, nat_lt, if◌then◌else◌, Bool, true, false, List, slice_set, Option, Some, None}
+use Rattle.std.specs.Prelude.{ℕ, ◌+◌, nat_lt, if◌then◌else◌, Bool, true, false, List, slice_set, Option, Some, None}
 use Rattle.flat_machine.specs.declared.machine.Act.{Act}
 use Rattle.flat_machine.specs.declared.machine.Cs.{Cs}
 use Rattle.flat_machine.specs.Plans.{Plan, Does, Fails}
@@ -86,8 +86,3 @@ tried_act seen cpu (Act.Check code) regs cs next link = undone seen cpu (Attempt
 abbrev pub tried : {S : Type 0} → Seen S → Cpu → Plan → Tried S
 tried seen cpu (Does regs cs act next link) = tried_act seen cpu act regs cs next link
 tried seen cpu (Fails code) = undone seen cpu (Attempt.Check code)
-
--- a plan that was tried at once: it went where that is answered, and else processor and storage are as before
-abbrev pub IsDoneIf : {S : Type 0} → Bool → Seen S → Cpu → Plan → (new : Cpu) → (after : S) → Type 0
-IsDoneIf true seen cpu plan new after = record { attempt = Attempt.Went; cpu = new; state = after } ≡ tried seen cpu plan
-IsDoneIf false seen cpu plan new after = (new ≡ cpu) × (after ≡ seen.state)

@@ -1,14 +1,14 @@
-ghost use Rattle.std.specs.Prelude.{◌≡◌, ◌<◌, length};
+ghost use Rattle.std.specs.Prelude.{◌≡◌, ◌<◌, length, None};
 ghost use Rattle.std.specs.Option.{ForSome};
 ghost use Rattle.flat_machine.specs.Access.{FitsFrom, IsAccess};
 ghost use Rattle.flat_machine.specs.Pending.{planned, IsSoundPending, StaysIfPending};
 ghost use Rattle.flat_machine.specs.declared.machine.Act.{Act};
 ghost use Rattle.romp_cpu.specs.Shown.{halfword_of};
 ghost use Rattle.romp_cpu.specs.Tried.{at, how_went, link_set, tried};
-ghost use Rattle.romp_cpu.specs.Attempts.{left_as, plan_over, seen_of, DoesIf, GivesNext, TriesAct, TriesNext, UndoesUnlessWent, IsOfFewBytes, StoresAll};
+ghost use Rattle.romp_cpu.specs.Attempts.{left_as, plan_over, seen_of, GivesNext, TriesAct, TriesNext, UndoesUnlessWent, IsOfFewBytes, StoresAll};
 
 use super::storage::{Access, Fault, Probe, Storage};
-use flat_machine::{Act, Cs, Fetch, Pending, do_alone, start_row, start_wanting};
+use flat_machine::{Act, Cs, Fetch, Pending, Rest, do_ready, start_row};
 
 /// A processor: sixteen registers, the condition status, the address of the next instruction, and how many bytes were
 /// printed.
@@ -91,85 +91,111 @@ impl Cpu {
         ensures few { IsOfFewBytes (how_went result went.new) }
         ensures whole { StoresAll (plan_over S.Storage storage.old (at self.old iar.old)) }
     {
-        if let Some(row) = storage.ready(*iar) {
-            if let Some(next) = do_alone(row, &mut self.regs, &mut self.cs, *iar) {
+        let Some(row) = storage.ready(*iar) else {
+            return self.carry_out_at(storage, iar, went);
+        };
+        match do_ready(row, &mut self.regs, &mut self.cs, *iar) {
+            Rest::On(next) => {
                 *iar = next;
-                return true;
+                true
             }
-            if let Some(Pending::Does { act, next, link }) = start_wanting(row, &self.regs, *iar) {
-                if self.act_at_once(storage, act, next, link) {
-                    *iar = self.iar;
-                    return true;
-                }
-                self.iar = *iar;
-                match (act, link) {
-                    (
-                        Act::Load {
-                            address,
-                            bytes,
-                            to,
-                            sign,
-                        },
-                        None,
-                    ) => {
-                        self.load(storage, address, bytes, to, sign, next, None, went);
-                        *iar = self.iar;
-                        return false;
-                    }
-                    (
-                        Act::Store {
-                            address,
-                            bytes,
-                            from,
-                        },
-                        None,
-                    ) => {
-                        self.store(storage, address, bytes, from, next, None, went);
-                        *iar = self.iar;
-                        return false;
-                    }
-                    _ => {}
-                }
+            Rest::Link {
+                to,
+                register,
+                after,
+            } => {
+                self.regs[usize::from(register)] = after;
+                *iar = to;
+                true
             }
-        }
-        self.iar = *iar;
-        self.carry_out_anew(storage, went);
-        *iar = self.iar;
-        false
-    }
-
-    /// What is left of an instruction, where it is known at once that its access is permitted. Else nothing changes.
-    #[inline(always)]
-    fn act_at_once<S: Storage>(
-        &mut self,
-        storage: &mut S,
-        act: Act,
-        next: u32,
-        link: Option<(u8, u32)>,
-    ) -> bool
-        requires access { IsAccess act }
-        requires link { ForSome link (λ written. written.0 < 16) }
-        ensures { DoesIf S.Storage storage.old storage.new self.old self.new act next link result }
-    {
-        let did = match act {
-            Act::Nothing => true,
-            Act::Load {
+            Rest::Load {
                 address,
                 bytes,
                 to,
                 sign,
-            } => storage.read_known(address, bytes, to, sign, &mut self.regs),
-            Act::Store {
+                next,
+            } => self.load_at(storage, iar, address, bytes, to, sign, next, went),
+            Rest::Store {
                 address,
                 bytes,
                 from,
-            } => storage.write_known(address, bytes, from, &self.regs),
-            _ => false,
-        };
-        if did {
-            let _ = self.go_on(next, link);
+                next,
+            } => self.store_at(storage, iar, address, bytes, from, next, went),
+            Rest::Trap(_) => {
+                *went = Attempt::Check(3);
+                false
+            }
         }
-        did
+    }
+
+    /// A load of a row that is known, at once where it is known to be permitted. Its address goes into no call, so that it
+    /// needn't lie in memory.
+    #[inline(always)]
+    fn load_at<S: Storage>(
+        &mut self,
+        storage: &mut S,
+        iar: &mut u32,
+        address: u32,
+        bytes: u8,
+        to: u8,
+        sign: bool,
+        next: u32,
+        went: &mut Attempt,
+    ) -> bool
+        requires fits { FitsFrom bytes to }
+        ensures { TriesAct S.Storage storage.old storage.new (at self.old iar.old) (at self.new iar.new) (Act.Load address bytes to sign) next None (how_went result went.new) }
+    {
+        if storage.read_known(address, bytes, to, sign, &mut self.regs) {
+            *iar = next;
+            return true;
+        }
+        self.iar = *iar;
+        self.load(storage, address, bytes, to, sign, next, None, went);
+        *iar = self.iar;
+        false
+    }
+
+    /// The same of a store.
+    #[inline(always)]
+    fn store_at<S: Storage>(
+        &mut self,
+        storage: &mut S,
+        iar: &mut u32,
+        address: u32,
+        bytes: u8,
+        from: u8,
+        next: u32,
+        went: &mut Attempt,
+    ) -> bool
+        requires fits { FitsFrom bytes from }
+        ensures { TriesAct S.Storage storage.old storage.new (at self.old iar.old) (at self.new iar.new) (Act.Store address bytes from) next None (how_went result went.new) }
+    {
+        if storage.write_known(address, bytes, from, &self.regs) {
+            *iar = next;
+            return true;
+        }
+        self.iar = *iar;
+        self.store(storage, address, bytes, from, next, None, went);
+        *iar = self.iar;
+        false
+    }
+
+    /// The instruction at an address where no row made ready is known.
+    #[inline(always)]
+    fn carry_out_at<S: Storage>(
+        &mut self,
+        storage: &mut S,
+        iar: &mut u32,
+        went: &mut Attempt,
+    ) -> bool
+        ensures tried { TriesNext S.Storage storage.old storage.new (at self.old iar.old) (at self.new iar.new) (how_went result went.new) }
+        ensures few { IsOfFewBytes (how_went result went.new) }
+        ensures whole { StoresAll (plan_over S.Storage storage.old (at self.old iar.old)) }
+    {
+        self.iar = *iar;
+        self.carry_out_anew(storage, went);
+        *iar = self.iar;
+        false
     }
 
     /// A load, as far as the storage permits. It is told in numbers, so that none of them lies in memory for a row that goes on
@@ -253,14 +279,7 @@ impl Cpu {
         ensures rest { self.new ≡ record self.old { regs = self.new.regs; cs = self.new.cs } }
     {
         if let Some(row) = storage.ready(self.iar) {
-            if let Some(next) = do_alone(row, &mut self.regs, &mut self.cs, self.iar) {
-                let act = Act::Nothing;
-                let link = None;
-                return Pending::Does { act, next, link };
-            }
-            if let Some(pending) = start_wanting(row, &self.regs, self.iar) {
-                return pending;
-            }
+            return do_ready(row, &mut self.regs, &mut self.cs, self.iar).pending();
         }
         let code = Shown { storage };
         start_row(&code, &mut self.regs, &mut self.cs, self.iar)

@@ -20,4 +20,4 @@ pub use Rattle.romp_table.specs.declared.names.TheConstants.{NAMES, SLOTS}
 pub use Rattle.romp_table.specs.declared.table.Format.{Format}
 pub use Rattle.romp_table.specs.declared.table.Row.{Row}
 pub use Rattle.romp_table.specs.declared.table.TheConstants.{PLACES, TABLE}
-pub use Rattle.std.proofs.lemmas.Grind.{elements}
+pub use Rattle.std.proofs.lemmas.Grind.{elements, common_steps}

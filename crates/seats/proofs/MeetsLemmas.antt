@@ -1,6 +1,5 @@
 -- Whether two sets of a page's lines meet, by the bits that they are told by.
-use Rattle.seats.proofs.Common.{arith, ap, sym, ◌∙◌, nat_tests, has, meets, has-append, any-at, any-some, lines_of_bits, is_in-where, none-bits, ◌≡◌, refl, ℕ, ◌<◌, ◌==◌, ◌||◌, ◌&&◌, not, min, true, List, [], ◌∷◌, ◌++◌, length, bit_and, bit_at, bit_at-lt, bit_at_and}
-use Rattle.lines.specs.LineBits.{is_on}
+use Rattle.seats.proofs.Common.{arith, ap, sym, ◌∙◌, nat_tests, has, meets, has-append, any-at, any-some, lines_of_bits, is_in-where, none-bits, ◌≡◌, refl, ℕ, ◌<◌, ◌==◌, ◌||◌, ◌&&◌, not, min, true, List, [], ◌∷◌, ◌++◌, length, bit_and, bit_at, bit_at-lt, bit_at_and, is_on}
 
 and-on : (p q : ℕ) → p < 2 → q < 2 → (min p q == 1) ≡ ((p == 1) && (q == 1))
 and-on p q small other = grind (arith, nat_tests)

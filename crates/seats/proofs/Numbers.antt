@@ -1,7 +1,6 @@
 -- Seats by the numbers and the flat lines, and places among them: holders, waits and the shown cycle.
-use Rattle.seats.proofs.Common.{option_map_or, ap, sym, ◌∙◌, eqb-true, eq-eqb, or_right, has, shown_cycle, found-has, found-passes, none-passes, cycle-named, Request, Want, of_seat, is_in_conflict, Seating, IsSeating, sitter, number_in, numbers_seated, seat_of, holders, seat_waits, cycle_of, AreOfPage, arith, nat_tests, ◌≡◌, refl, ℕ, ◌==◌, ◌&&◌, not, Bool, true, false, List, [], ◌∷◌, map, filter, Option, Some, None, Lines, conflicts, lines_wanted, IsFlat, range_with_len, option_map, inl, inr, ne_eqb, ltb-true, cases_eq, cases_lt, same_lists, get_or_default, has-range, in_range, cycle-among, waits_in, row_places, seat_at, ◌<◌, length, length-map-range_with_len, get_or-map-range_with_len}
+use Rattle.seats.proofs.Lemmas.{option_map_or, ap, sym, ◌∙◌, eqb-true, eq-eqb, or_right, has, shown_cycle, found-has, found-passes, none-passes, cycle-named, Request, Want, of_seat, is_in_conflict, Seating, IsSeating, sitter, number_in, numbers_seated, seat_of, holders, seat_waits, cycle_of, AreOfPage, arith, nat_tests, ◌≡◌, refl, ℕ, ◌==◌, ◌&&◌, not, Bool, true, false, List, [], ◌∷◌, map, filter, Option, Some, None, Lines, conflicts, lines_wanted, IsFlat, range_with_len, option_map, inl, inr, ne_eqb, ltb-true, cases_eq, cases_lt, same_lists, get_or_default, has-range, in_range, cycle-among, waits_in, row_places, seat_at, ◌<◌, length, length-map-range_with_len, get_or-map-range_with_len, apart}
 use Rattle.seats.proofs.FlatLemmas.{conflict-flat}
-use Rattle.seats.proofs.Ascending.{apart}
 use Rattle.std.proofs.lemmas.Simd.{map-map}
 
 module _ (seating : Seating) (is : IsSeating seating) where

@@ -1,6 +1,5 @@
 -- What sixteen seats hold of the lines of a store.
 use Rattle.std.specs.Prelude.{◌≡◌, ℕ, ◌^◌, ◌==◌, ◌&&◌, not, Bool, List, [], length, All, sum_by, replicate, slice_set, slice_index_or}
-use Rattle.lines.specs.LineSets.{passing}
 use Rattle.seats.specs.declared.request.Want.{Want}
 use Rattle.seats.specs.Held.{nothing, of_page, with_wants, some_conflict}
 
@@ -44,10 +43,6 @@ released holding seat = with_seat holding seat (no_lines_of holding.pages)
 -- whether a seat is another than the one that asks, and what that one wants conflicts with what it holds
 abbrev pub is_in_conflict : Holding → (asking : ℕ) → List Want → (other : ℕ) → Bool
 is_in_conflict holding asking wants other = not (other == asking) && some_conflict (of_seat holding other) wants
-
--- the seats that are in conflict with what a seat wants, ascending
-abbrev pub in_conflict : Holding → ℕ → List Want → List ℕ
-in_conflict holding asking wants = passing 16 (is_in_conflict holding asking wants)
 
 -- the number in which the bits of these seats are on, and no others
 abbrev pub bits_of_seats : List ℕ → ℕ

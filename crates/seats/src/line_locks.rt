@@ -2,7 +2,8 @@ ghost use Rattle.std.specs.Prelude.{◌≡◌, ◌<◌, ℕ, length, IfOk};
 ghost use Rattle.lines.specs.Sets.{has, size};
 ghost use Rattle.seats.specs.Counted.{Ascend};
 ghost use Rattle.seats.specs.Held.{holds_some, write_count, AreWithin};
-ghost use Rattle.seats.specs.Holding.{IsWholeHolding, of_seat, nothing_held, held_at, is_in_conflict, in_conflict, bits_of_seats, taken, released};
+ghost use Rattle.seats.specs.Holding.{IsWholeHolding, of_seat, nothing_held, held_at, is_in_conflict, bits_of_seats, taken, released};
+ghost use Rattle.lines.specs.LineSets.{passing};
 
 use super::request::Request;
 use super::seat_lines::SeatLines;
@@ -75,7 +76,7 @@ impl Locks {
     /// The other seats with which a request of a seat conflicts, as the number in which their bits are on.
     pub fn conflicts(&self, seat: u8, request: &Request) -> u16
         requires { AreWithin self.now.pages request.now.wants.items }
-        ensures { result ≡ bits_of_seats (in_conflict self.now seat request.now.wants.items) }
+        ensures { result ≡ bits_of_seats (passing 16 (is_in_conflict self.now seat request.now.wants.items)) }
     {
         let mut bits = 0;
         for other in 0..SEATS {

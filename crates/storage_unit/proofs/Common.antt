@@ -76,9 +76,8 @@ pub use Rattle.storage_unit.specs.declared.unit_model.Reach.{Reach}
 pub use Rattle.storage_unit.specs.declared.unit.Unit.{Unit}
 pub use Rattle.byteorder.specs.Endian.{big_number}
 pub use Rattle.frame_pool.proofs.LayLemmas.{all-lines, laid-anyway, overlaid-joined}
-pub use Rattle.page_table.specs.declared.open_lines.OpenLine.{OpenLine}
 pub use Rattle.ready_rows.specs.Known.{known}
 pub use Rattle.ready_rows.specs.declared.rows.ReadyRows.{ReadyRows}
 pub use Rattle.storage_unit.specs.Cleared.{AreClear, AreUsed}
-pub use Rattle.storage_unit.specs.OpenLines.{AreMarked, AreOpened, IsOpenAt, IsOpenFrom, IsLineOpened, is_marked_at, lets_at}
+pub use Rattle.storage_unit.specs.OpenLines.{AreMarked, AreOpened, first_of, IsOpenAt, IsOpenSpot, IsLineOpened, is_marked_at, lets_at, location}
 pub use Rattle.storage_unit.specs.ReadyRows.{AreReady, after_store, private_byte, private_half}

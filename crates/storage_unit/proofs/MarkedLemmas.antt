@@ -1,5 +1,5 @@
 -- A store to lines that are marked leaves the marks.
-use Rattle.storage_unit.proofs.Common.{◌≡◌, ℕ, Bool, ◌+◌, ◌-◌, ◌*◌, ◌/◌, ◌%◌, ◌<◌, ◌≤◌, ◌==◌, ◌&&◌, ◌||◌, nat_le, if◌then◌else◌, true, false, List, [], length, sym, ◌∙◌, ap, subst, arith, nat_tests, Option, Some, inl, inr, cases_Bool, option_map_or, slice_set, page_bytes, line_bytes, start_of, line_of, page_of, page_of_line, between, where-alike, is_in_where-below, has, Virtual, key_of, look_up, Pool, marks_at, marked_in, with_marks, with_bytes, lines_of_part, with_frame_part, lent-part, refl, Access, Unit, Reach, is_private, offset_of, byte_place, put_at, seat_pages, table_of, IsReachSound, Lies, reach_of, set-get_or, AreMarked, IsOpenFrom, OpenLine, ReadyRows, known, AreReady, after_store, AreClear, AreUsed}
+use Rattle.storage_unit.proofs.Common.{◌≡◌, ◌^◌, ℕ, Bool, ◌+◌, ◌-◌, ◌*◌, ◌/◌, ◌%◌, ◌<◌, ◌≤◌, ◌==◌, ◌&&◌, ◌||◌, nat_le, if◌then◌else◌, true, false, List, [], length, sym, ◌∙◌, ap, subst, arith, nat_tests, Option, Some, inl, inr, cases_Bool, option_map_or, slice_set, page_bytes, line_bytes, start_of, line_of, page_of, page_of_line, between, where-alike, is_in_where-below, has, Virtual, key_of, look_up, Pool, marks_at, marked_in, with_marks, with_bytes, lines_of_part, with_frame_part, lent-part, refl, Access, Unit, Reach, is_private, offset_of, byte_place, put_at, seat_pages, table_of, IsReachSound, Lies, reach_of, set-get_or, AreMarked, IsOpenSpot, ReadyRows, known, AreReady, after_store, AreClear, AreUsed}
 use Rattle.storage_unit.proofs.SizeLemmas.{seat-frame, seat-page, page-of-line, same-page-on, line-in, rest-on}
 use Rattle.storage_unit.proofs.PlaceLemmas.{finds-own, place-byte}
 use Rattle.storage_unit.proofs.LineLemmas.{lies-one, page-found}
@@ -8,7 +8,7 @@ use Rattle.storage_unit.proofs.PartLemmas.{pool-after}
 use Rattle.storage_unit.proofs.StoreLemmas.{private-none}
 use Rattle.storage_unit.proofs.UnitLemmas.{unit-sound}
 use Rattle.storage_unit.proofs.OpenedLemmas.{open-lies, open-room, spot-is}
-use Rattle.storage_unit.proofs.WrittenLemmas.{stored-part, ready-part, clear-part}
+use Rattle.storage_unit.proofs.WrittenLemmas.{stored-part, ready-part, clear-part, spot-within}
 
 both : (a b : Bool) → (a && b) ≡ true → (a ≡ true) × (b ≡ true)
 both a b is = grind (arith, nat_tests)
@@ -64,34 +64,38 @@ module _ (state : Reach) (sound : IsReachSound state) (at : Virtual) (n : ℕ) (
       one same = cc
 
 -- the unit when bytes at the spot of a line that is known were written
-module _ (unit : Unit) (wants : Access) (line : OpenLine) (some : 0 < wants.bytes) (stores : wants.store ≡ true) (opens : IsOpenFrom (reach_of unit) wants line)
+module _ (unit : Unit) (wants : Access) (spot : ℕ) (some : 0 < wants.bytes) (stores : wants.store ≡ true) (opens : IsOpenSpot (reach_of unit) wants spot)
     (part : List ℕ) (long : length part ≡ wants.bytes) where
-  lies : Lies (reach_of unit) line.first wants.bytes
-  lies = open-lies unit wants line.first line.frame opens.opens
+  lies : Lies (reach_of unit) opens.first wants.bytes
+  lies = open-lies unit wants opens.first opens.frame opens.opens
 
-  over-same : with_frame_part unit.pool line.spot part
-      ≡ with_frame_part (marked_in unit.pool line.frame (lines_of_part unit.pool.page line.first.byte wants.bytes)) (line.frame * page_bytes unit.pool.page + line.first.byte) part
+  over-same : with_frame_part unit.pool spot part
+      ≡ with_frame_part (marked_in unit.pool opens.frame (lines_of_part unit.pool.page opens.first.byte wants.bytes)) (opens.frame * page_bytes unit.pool.page + opens.first.byte) part
   over-same =
-      lent-part unit.pool line.spot part (omega (arith, long, open-room unit wants line some opens wants.bytes refl))
-      ∙ ap (λ at. with_bytes unit.pool at part) (spot-is unit wants line some opens wants.bytes refl)
-      ∙ ap (λ (p : Pool). with_bytes p (line.frame * page_bytes unit.pool.page + line.first.byte) part)
-      (sym (marks-same (reach_of unit) (unit-sound unit) line.first wants.bytes some lies opens.opens.within line.frame opens.opens.frame (opens.written stores)))
-      ∙ sym (pool-after unit line.first line.frame line.first.byte wants.bytes opens.opens.frame refl opens.opens.within (lines_of_part unit.pool.page line.first.byte wants.bytes) part long)
+      lent-part unit.pool spot part (omega (arith, long, open-room unit wants spot some opens wants.bytes refl))
+      ∙ ap (λ at. with_bytes unit.pool at part) (spot-is unit wants spot some opens wants.bytes refl)
+      ∙ ap (λ (p : Pool). with_bytes p (opens.frame * page_bytes unit.pool.page + opens.first.byte) part)
+      (sym (marks-same (reach_of unit) (unit-sound unit) opens.first wants.bytes some lies opens.opens.within opens.frame opens.opens.frame (opens.written stores)))
+      ∙ sym (pool-after unit opens.first opens.frame opens.first.byte wants.bytes opens.opens.frame refl opens.opens.within (lines_of_part unit.pool.page opens.first.byte wants.bytes) part long)
 
-  pub stored-over : (let now : Reach = record (reach_of unit) { pool = with_frame_part unit.pool line.spot part } in now) ≡ put_at (reach_of unit) (byte_place unit.directory line.first) part
+  pub stored-over : (let now : Reach = record (reach_of unit) { pool = with_frame_part unit.pool spot part } in now) ≡ put_at (reach_of unit) (byte_place unit.directory opens.first) part
   stored-over =
       ap (λ (p : Pool). (let now : Reach = record (reach_of unit) { pool = p } in now)) over-same
-      ∙ stored-part unit line.first line.frame line.first.byte wants.bytes opens.opens.frame refl opens.opens.within some lies part long
+      ∙ stored-part unit opens.first opens.frame opens.first.byte wants.bytes opens.opens.frame refl opens.opens.within some lies part long
 
-  pub ready-over : (after : ReadyRows) → ((address : ℕ) → known after address ≡ after_store unit.directory.page line.first wants.bytes address (known unit.rows address))
-      → AreReady after (with_frame_part unit.pool line.spot part).bytes unit.runner
+  pub ready-over : (after : ReadyRows) → ((address : ℕ) → known after address ≡ after_store spot wants.bytes address (known unit.rows address))
+      → AreReady after (with_frame_part unit.pool spot part).bytes unit.runner
   ready-over after left =
       subst (λ (list : List ℕ). AreReady after list unit.runner) (sym (ap (λ (p : Pool). p.bytes) over-same))
-      (ready-part unit line.first line.frame line.first.byte wants.bytes opens.opens.frame refl opens.opens.within some lies part long after left)
+      (ready-part unit opens.first opens.frame opens.first.byte wants.bytes opens.opens.frame refl opens.opens.within some lies part long spot opens.is after left)
 
-  pub clear-over : (after : List ℕ) → (is_private line.first.segment ≡ false → after ≡ unit.used)
-      → (is_private line.first.segment ≡ true → AreUsed unit.used after (line.first.segment - 3840) (offset_of unit.directory.page line.first + wants.bytes))
-      → AreClear after (with_frame_part unit.pool line.spot part).bytes
+  pub clear-over : (after : List ℕ) → (2 ^ 18 ≤ spot → after ≡ unit.used) → (spot < 2 ^ 18 → AreUsed unit.used after (spot / 16384) (spot % 16384 + wants.bytes))
+      → AreClear after (with_frame_part unit.pool spot part).bytes
   clear-over after stays more =
       subst (λ (list : List ℕ). AreClear after list) (sym (ap (λ (p : Pool). p.bytes) over-same))
-      (clear-part unit line.first line.frame line.first.byte wants.bytes opens.opens.frame refl opens.opens.within some lies part long after stays more)
+      (clear-part unit opens.first opens.frame opens.first.byte wants.bytes opens.opens.frame refl opens.opens.within some lies part long spot opens.is after stays more)
+
+-- and those bytes lie in one seat's, where they are private
+pub open-within : (unit : Unit) (wants : Access) (spot : ℕ) → 0 < wants.bytes → IsOpenSpot (reach_of unit) wants spot → spot < 2 ^ 18 → spot % 16384 + wants.bytes ≤ 16384
+open-within unit wants spot some opens low =
+    spot-within unit opens.first opens.frame wants.bytes opens.opens.frame some (open-lies unit wants opens.first opens.frame opens.opens) spot opens.is low

@@ -1,5 +1,5 @@
 -- The lines that a unit knows may be accessed.
-use Rattle.storage_unit.proofs.Common.{cases_lt, inl, inr, ◌≡◌, ℕ, ◌+◌, ◌-◌, ◌*◌, ◌/◌, ◌%◌, ◌<◌, ◌≤◌, ◌^◌, Bool, true, false, refl, sym, ◌∙◌, ap, subst, arith, List, Option, Some, None, Ok, not, ◌&&◌, find, option_map, slice_index_or, nat_tests, PageSize, Two, Four, page_bytes, line_bytes, bytes_of, is_named, Layout, length_of, start_of, page_of_line, grant_of, lets, Key, Placed, entry_at, key_of, look_up, SegmentRegister, Virtual, Registers, located_under, located_by, Access, Probe, answered_at, if_permitted, Reach, is_private, offset_of, byte_place, on, table_of, is_kept_from, is_in_frame, refuses_byte, IsReachSound, AreSegmentsLegal, Lies, bytes_shown, bytes_from, byte_at, Unit, reach_of, length, length-take, length-drop, slice_range, has, is_marked, [], marked_in, union, slice_set, get_or-set_same, get_or-set_other, get_or_past, is_in_where-below, page_at, with_marks, option_map_or, put_at, Located, IsRefusal, OpenLine, lets_at, is_marked_at, IsLineOpened, AreOpened, AreMarked, IsOpenAt, IsOpenFrom}
+use Rattle.storage_unit.proofs.Common.{cases_lt, inl, inr, ◌≡◌, ℕ, ◌+◌, ◌-◌, ◌*◌, ◌/◌, ◌%◌, ◌<◌, ◌≤◌, ◌^◌, ◌⊎◌, Bool, true, false, refl, sym, ◌∙◌, ap, subst, arith, List, Option, Some, None, Ok, not, ◌&&◌, find, option_map, slice_index_or, nat_tests, PageSize, Two, Four, page_bytes, line_bytes, bytes_of, is_named, Layout, length_of, start_of, page_of_line, grant_of, lets, Key, Placed, entry_at, key_of, look_up, SegmentRegister, Virtual, Registers, located_under, located_by, Access, Probe, answered_at, if_permitted, Reach, is_private, offset_of, byte_place, on, table_of, is_kept_from, is_in_frame, refuses_byte, IsReachSound, AreSegmentsLegal, Lies, bytes_shown, bytes_from, byte_at, Unit, reach_of, length, length-take, length-drop, slice_range, has, is_marked, [], marked_in, union, slice_set, get_or-set_same, get_or-set_other, get_or_past, is_in_where-below, page_at, with_marks, option_map_or, put_at, Located, IsRefusal, lets_at, is_marked_at, location, first_of, IsLineOpened, AreOpened, IsOpenAt, IsOpenSpot}
 use Rattle.page_table.specs.declared.open_lines.OpenLines.{OpenLines}
 use Rattle.page_table.specs.KnownLines.{known, KnowsNoLine, with_known_line}
 use Rattle.storage_unit.proofs.AnswerLemmas.{permitted-lines}
@@ -142,15 +142,15 @@ module _ (state : Reach) (sound : IsReachSound state) (address n : ℕ) (store :
       let rest : address / 128 * 128 % 2 ^ 28 ≡ address % 2 ^ 28 / 128 * 128 = omega arith in
       cc (found.stands, whole-located state.registers.page found.register (address % 2 ^ 28) n store at register-whole some (ap (λ r. located_under state.registers.page r (address % 2 ^ 28) n store) (sym found.stands) ∙ is))
 
+-- the frame of a spot
+part-frame : (size : PageSize) (spot frame byte : ℕ) → spot ≡ frame * page_bytes size + byte → byte < page_bytes size → spot / page_bytes size ≡ frame
+part-frame size spot frame byte is low = grind (arith, nat_tests)
+
 -- the block of a byte of an access that may be made, from its first byte on, is open
-module _ (unit : Unit) (wants : Access) (first : Virtual) (frame past : ℕ) (at : Virtual) (line : OpenLine) (below : past < wants.bytes) (opens : IsOpenAt (reach_of unit) wants first frame) (is-at : at ≡ moved first past)
-    (from : line.first ≡ rounded at) (of : line.frame ≡ frame) (spot : line.spot ≡ frame * page_bytes unit.directory.page + at.byte / 128 * 128)
-    (stores : line.write ≡ true → wants.store ≡ true) (marked : line.write ≡ true → is_private at.segment ≡ false → is_marked_at unit.directory unit.pool.marked at ≡ true) where
+module _ (unit : Unit) (wants : Access) (first : Virtual) (frame past : ℕ) (at : Virtual) (spot : ℕ) (below : past < wants.bytes) (opens : IsOpenAt (reach_of unit) wants first frame) (is-at : at ≡ moved first past)
+    (spot-at : spot ≡ frame * page_bytes unit.directory.page + at.byte / 128 * 128) where
   abbrev state : Reach
   state = reach_of unit
-
-  less : (line.write && not wants.store) ≡ false
-  less = grind (arith, nat_tests, stores)
 
   allowed : is_private at.segment ≡ false → lets_at unit.directory unit.table unit.runner at wants.store ≡ true
   allowed own =
@@ -166,34 +166,54 @@ module _ (unit : Unit) (wants : Access) (first : Virtual) (frame past : ℕ) (at
   back : at ≡ moved (rounded at) (at.byte % 128)
   back = ap (λ b. (let v : Virtual = record at { byte = b } in v)) (let same : at.byte ≡ at.byte / 128 * 128 + at.byte % 128 = omega arith in same)
 
-  block-from : located_by unit.registers ((wants.address + past) / 128 * 128) 128 line.write ≡ Ok (rounded at)
-  block-from =
-      block-located state (unit-sound unit) (wants.address + past) 1 line.write at (omega arith)
-      (weaker unit.registers (wants.address + past) 1 wants.store line.write at less
-      (byte-located state (unit-sound unit) wants.address wants.bytes past wants.store first below opens.within opens.located ∙ ap (λ v. Ok v) (sym is-at)))
+  spot-frame : spot / page_bytes unit.directory.page ≡ frame
+  spot-frame = part-frame unit.directory.page spot frame (at.byte / 128 * 128) spot-at (omega (arith, opens.within, below, ap (λ (v : Virtual). v.byte) is-at))
 
-  block-opened : IsLineOpened unit.directory unit.table unit.registers unit.pool.marked unit.runner ((wants.address + past) / 128) line
-  block-opened = record {
-    located = block-from ∙ ap (λ v. Ok v) (sym from);
-    frame =
-        ap (λ (v : Virtual). look_up unit.table.keys (key_of v)) (from ∙ ap rounded is-at)
-        ∙ ap (λ (keys : List (Option Key)). look_up keys (key_of first)) unit.held ∙ opens.frame ∙ ap (λ (n : ℕ). Some n) (sym of);
-    spot = spot ∙ ap (λ n. n * page_bytes unit.directory.page + at.byte / 128 * 128) (sym of) ∙ ap (λ (v : Virtual). line.frame * page_bytes unit.directory.page + v.byte) (sym from);
-    allowed = λ own.
-        ap (λ v. lets_at unit.directory unit.table unit.runner v line.write) from
-        ∙ lets-load unit.table unit.directory unit.runner (rounded at) wants.store line.write less
-        (sym (lets-same unit.directory unit.legal unit.table unit.runner (rounded at) (at.byte % 128) wants.store (omega arith) (omega arith))
-        ∙ ap (λ at. lets_at unit.directory unit.table unit.runner at wants.store) (sym back) ∙ allowed (ap (λ (v : Virtual). is_private v.segment) (sym from) ∙ own));
-    written = λ own is.
-        ap (is_marked_at unit.directory unit.pool.marked) from
-        ∙ sym (marked-same unit.directory unit.legal unit.pool.marked (rounded at) (at.byte % 128) (omega arith) (omega arith))
-        ∙ ap (is_marked_at unit.directory unit.pool.marked) (sym back) ∙ marked is (ap (λ (v : Virtual). is_private v.segment) (sym from) ∙ own);
-  }
+  module _ (store : Bool) (less : (store && not wants.store) ≡ false) (marked : store ≡ true → is_private at.segment ≡ false → is_marked_at unit.directory unit.pool.marked at ≡ true) where
+    block-from : located_by unit.registers ((wants.address + past) / 128 * 128) 128 store ≡ Ok (rounded at)
+    block-from =
+        block-located state (unit-sound unit) (wants.address + past) 1 store at (omega arith)
+        (weaker unit.registers (wants.address + past) 1 wants.store store at less
+        (byte-located state (unit-sound unit) wants.address wants.bytes past wants.store first below opens.within opens.located ∙ ap (λ v. Ok v) (sym is-at)))
+
+    from : first_of unit.registers ((wants.address + past) / 128) store ≡ rounded at
+    from = ap location block-from
+
+    block-opened : IsLineOpened unit.directory unit.table unit.registers unit.pool.marked unit.runner ((wants.address + past) / 128) spot store
+    block-opened = record {
+      located = block-from ∙ ap (λ v. Ok v) (sym from);
+      frame =
+          ap (λ (v : Virtual). look_up unit.table.keys (key_of v)) (from ∙ ap rounded is-at)
+          ∙ ap (λ (keys : List (Option Key)). look_up keys (key_of first)) unit.held ∙ opens.frame ∙ ap (λ (n : ℕ). Some n) (sym spot-frame);
+      is = spot-at ∙ ap (λ n. n * page_bytes unit.directory.page + at.byte / 128 * 128) (sym spot-frame) ∙ ap (λ (v : Virtual). spot / page_bytes unit.directory.page * page_bytes unit.directory.page + v.byte) (sym from);
+      allowed = λ own.
+          ap (λ v. lets_at unit.directory unit.table unit.runner v store) from
+          ∙ lets-load unit.table unit.directory unit.runner (rounded at) wants.store store less
+          (sym (lets-same unit.directory unit.legal unit.table unit.runner (rounded at) (at.byte % 128) wants.store (omega arith) (omega arith))
+          ∙ ap (λ at. lets_at unit.directory unit.table unit.runner at wants.store) (sym back) ∙ allowed (ap (λ (v : Virtual). is_private v.segment) (sym from) ∙ own));
+      written = λ own is.
+          ap (is_marked_at unit.directory unit.pool.marked) from
+          ∙ sym (marked-same unit.directory unit.legal unit.pool.marked (rounded at) (at.byte % 128) (omega arith) (omega arith))
+          ∙ ap (is_marked_at unit.directory unit.pool.marked) (sym back) ∙ marked is (ap (λ (v : Virtual). is_private v.segment) (sym from) ∙ own);
+    }
+
+  -- what is known at a block once one was kept
+  kept-or : (write store : Bool) (block other : ℕ) (before : Option ℕ) → with_known_line ((wants.address + past) / 128) spot write store block before ≡ Some other
+      → ((block ≡ (wants.address + past) / 128) × (other ≡ spot) × ((store && not write) ≡ false)) ⊎ (before ≡ Some other)
+  kept-or write store block other before is = grind (arith, nat_tests)
 
   pub opened-with :
-      (after : OpenLines) → ((block : ℕ) → known after block ≡ with_known_line ((wants.address + past) / 128) line block (known unit.lines block))
+      (write : Bool) → (write ≡ true → wants.store ≡ true) → (write ≡ true → is_private at.segment ≡ false → is_marked_at unit.directory unit.pool.marked at ≡ true)
+      → (after : OpenLines) → ((store : Bool) (block : ℕ) → known after store block ≡ with_known_line ((wants.address + past) / 128) spot write store block (known unit.lines store block))
       → AreOpened after unit.directory unit.table unit.registers unit.pool.marked unit.runner
-  opened-with after left block other is = grind (arith, nat_tests, left block, block-opened, unit.opened block other)
+  opened-with write stores marked after left store block other is = elim (kept-or write store block other (known unit.lines store block) (sym (left store block) ∙ is)) [
+    | inr old ↦ unit.opened store block other old
+    | inl new ↦
+        let (same, spots, may) = new in
+        subst (λ b. IsLineOpened unit.directory unit.table unit.registers unit.pool.marked unit.runner b other store) (sym same)
+        (subst (λ s. IsLineOpened unit.directory unit.table unit.registers unit.pool.marked unit.runner ((wants.address + past) / 128) s store) (sym spots)
+        (block-opened store (grind (arith, nat_tests, stores)) (λ is. marked (grind (arith, nat_tests)))))
+  ]
 
 -- marks that come beside others leave those
 marks-stay : (marked : List (List ℕ)) (page : ℕ) (lines : List ℕ) (p x : ℕ) → x < 16 → has (slice_index_or marked p []) x ≡ true
@@ -205,12 +225,12 @@ opened-more unit frame lines = by_page (page_at unit.pool frame)
   where
     by_page : (o : Option ℕ) → AreOpened unit.lines unit.directory unit.table unit.registers (option_map_or (λ page. with_marks unit.pool page lines) o unit.pool).marked unit.runner
     by_page None = unit.opened
-    by_page (Some page) = λ block line is.
-        let told = unit.opened block line is in
+    by_page (Some page) = λ store block spot is.
+        let told = unit.opened store block spot is in
         record {
           located = told.located;
           frame = told.frame;
-          spot = told.spot;
+          is = told.is;
           allowed = told.allowed;
           written = λ own write. marks-stay unit.pool.marked page lines _ _ (omega arith) (told.written own write);
         }
@@ -221,34 +241,27 @@ open-after state place bytes wants first frame opens = grind (arith, nat_tests)
 
 -- where none is known, all are open
 pub opened-none : (lines : OpenLines) (directory : Layout) (table : Placed) (registers : Registers) (runner : ℕ) {marked : List (List ℕ)} → KnowsNoLine lines → AreOpened lines directory table registers marked runner
-opened-none lines directory table registers runner none block line is = absurd (let clash : None ≡ Some line = sym (none block) ∙ is in cc)
-
--- the first byte of a line that is known is one of its page, and its spot is one of as many frames
-pub opened-low : (unit : Unit) (wants : Access) (line : OpenLine) → known unit.lines (wants.address / 128) ≡ Some line → (line.first.byte < 4096) × (line.spot < line.frame * 4096 + 4096)
-opened-low unit wants line is =
-    let told = unit.opened (wants.address / 128) line is in
-    let low = (lies (reach_of unit) (unit-sound unit) (wants.address / 128 * 128) 128 line.first (under unit.registers (wants.address / 128 * 128) 128 line.write line.first told.located)).within in
-    grind (arith, nat_tests, low, told.spot)
+opened-none lines directory table registers runner none store block spot is = absurd (let clash : None ≡ Some spot = sym (none store block) ∙ is in cc)
 
 -- an access among bytes of one page that are located together, each of which the entry lets, may be made
-module _ (unit : Unit) (wants : Access) (line : OpenLine) (all : ℕ) (some : 0 < wants.bytes) (few : wants.bytes ≤ 255) (fits : wants.address % 128 + wants.bytes ≤ all)
-    (together : located_by unit.registers (wants.address / 128 * 128) all wants.store ≡ Ok line.first) (room : line.first.byte + all ≤ page_bytes unit.directory.page)
-    (told : IsLineOpened unit.directory unit.table unit.registers unit.pool.marked unit.runner (wants.address / 128) line)
-    (lets : is_private line.first.segment ≡ false → (k : ℕ) → k < all → lets_at unit.directory unit.table unit.runner (moved line.first k) wants.store ≡ true)
-    (marks : wants.store ≡ true → is_private line.first.segment ≡ false → (k : ℕ) → k < all → is_marked_at unit.directory unit.pool.marked (moved line.first k) ≡ true) where
+module _ (unit : Unit) (wants : Access) (first : Virtual) (frame spot all : ℕ) (some : 0 < wants.bytes) (few : wants.bytes ≤ 255) (fits : wants.address % 128 + wants.bytes ≤ all)
+    (together : located_by unit.registers (wants.address / 128 * 128) all wants.store ≡ Ok first) (room : first.byte + all ≤ page_bytes unit.directory.page)
+    (held : look_up unit.table.keys (key_of first) ≡ Some frame) (spot-at : spot ≡ frame * page_bytes unit.directory.page + first.byte)
+    (lets : is_private first.segment ≡ false → (k : ℕ) → k < all → lets_at unit.directory unit.table unit.runner (moved first k) wants.store ≡ true)
+    (marks : wants.store ≡ true → is_private first.segment ≡ false → (k : ℕ) → k < all → is_marked_at unit.directory unit.pool.marked (moved first k) ≡ true) where
   abbrev at : Virtual
-  at = moved line.first (wants.address % 128)
+  at = moved first (wants.address % 128)
 
   located : located_by unit.registers wants.address wants.bytes wants.store ≡ Ok at
-  located = opened-located unit.registers wants.address wants.bytes all wants.store line.first fits together
+  located = opened-located unit.registers wants.address wants.bytes all wants.store first fits together
 
   within : at.byte + wants.bytes ≤ page_bytes unit.directory.page
   within = omega (arith, room, fits)
 
-  frame : look_up (table_of (reach_of unit)).keys (key_of at) ≡ Some line.frame
-  frame = sym (ap (λ (keys : List (Option Key)). look_up keys (key_of at)) unit.held) ∙ told.frame
+  in-frame : look_up (table_of (reach_of unit)).keys (key_of at) ≡ Some frame
+  in-frame = sym (ap (λ (keys : List (Option Key)). look_up keys (key_of at)) unit.held) ∙ held
 
-  further : (k : ℕ) → start_of unit.directory at.segment + offset_of unit.directory.page at + k ≡ start_of unit.directory line.first.segment + offset_of unit.directory.page (moved line.first (wants.address % 128 + k))
+  further : (k : ℕ) → start_of unit.directory at.segment + offset_of unit.directory.page at + k ≡ start_of unit.directory first.segment + offset_of unit.directory.page (moved first (wants.address % 128 + k))
   further k = omega arith
 
   kept : (k : ℕ) → k < wants.bytes → is_kept_from (reach_of unit) (on (byte_place unit.directory at) k) wants.store ≡ false
@@ -256,86 +269,119 @@ module _ (unit : Unit) (wants : Access) (line : OpenLine) (all : ℕ) (some : 0 
       let far : wants.address % 128 + k < all = omega (arith, fits, below) in
       grind (arith, nat_tests, private-is unit.directory at, shared-is unit.directory at, further k, far, lets)
 
-  opened-at : IsOpenAt (reach_of unit) wants at line.frame
+  opened-at : IsOpenAt (reach_of unit) wants at frame
   opened-at = record {
     located = located;
     within = within;
-    frame = frame;
+    frame = in-frame;
     permitted =
         sym (found-answer unit wants wants.bytes (located_by unit.registers wants.address wants.bytes wants.store) at refl refl located Probe.Permitted
-        (permitted (reach_of unit) (unit-sound unit) at wants.bytes some few (found-lies unit wants wants.bytes (located_by unit.registers wants.address wants.bytes wants.store) at refl refl located) wants.store wants refl refl line.frame frame within kept));
+        (permitted (reach_of unit) (unit-sound unit) at wants.bytes some few (found-lies unit wants wants.bytes (located_by unit.registers wants.address wants.bytes wants.store) at refl refl located) wants.store wants refl refl frame in-frame within kept));
   }
 
-  opened-from : (found : OpenLine) → found.first ≡ at → found.frame ≡ line.frame → found.spot ≡ line.spot + wants.address % 128 → IsOpenFrom (reach_of unit) wants found
-  opened-from found from of spot = record {
-    opens = subst (λ v. IsOpenAt (reach_of unit) wants v found.frame) (sym from) (subst (IsOpenAt (reach_of unit) wants at) (sym of) opened-at);
-    spot = omega (arith, spot, told.spot, ap (λ n. n * page_bytes unit.directory.page) of, ap (λ (v : Virtual). v.byte) from);
-    written = λ stores. subst (λ v. AreMarked (reach_of unit) v wants.bytes) (sym from)
-        (λ own past below. ap (is_marked unit.directory unit.pool) (further past) ∙ marks stores own (wants.address % 128 + past) (omega (arith, fits, below)));
+  opened-from : IsOpenSpot (reach_of unit) wants (spot + wants.address % 128)
+  opened-from = record {
+    first = at;
+    frame = frame;
+    opens = opened-at;
+    is = omega (arith, spot-at);
+    written = λ stores own past below. ap (is_marked unit.directory unit.pool) (further past) ∙ marks stores own (wants.address % 128 + past) (omega (arith, fits, below));
   }
 
 -- the bytes of a line that is known
-module _ (unit : Unit) (block : ℕ) (line : OpenLine) (store : Bool) (less : (store && not line.write) ≡ false) (is : known unit.lines block ≡ Some line) where
-  told : IsLineOpened unit.directory unit.table unit.registers unit.pool.marked unit.runner block line
-  told = unit.opened block line is
+module _ (unit : Unit) (block spot : ℕ) (store : Bool) (is : known unit.lines store block ≡ Some spot) where
+  told : IsLineOpened unit.directory unit.table unit.registers unit.pool.marked unit.runner block spot store
+  told = unit.opened store block spot is
 
-  here : Under unit.registers (block * 128) 128 line.first
-  here = under unit.registers (block * 128) 128 line.write line.first told.located
+  abbrev line-first : Virtual
+  line-first = first_of unit.registers block store
 
-  line-whole : line.first.byte % 128 ≡ 0
+  here : Under unit.registers (block * 128) 128 line-first
+  here = under unit.registers (block * 128) 128 store line-first told.located
+
+  line-whole : line-first.byte % 128 ≡ 0
   line-whole = ap (λ (v : Virtual). v.byte % 128) here.is ∙ (part-of-page unit.registers.page (block * 128 % 2 ^ 28) 0 (omega arith) (omega arith)).2
 
-  line-room : line.first.byte + 128 ≤ page_bytes unit.directory.page
-  line-room = whole-room unit.directory.page line.first.byte line-whole (lies (reach_of unit) (unit-sound unit) (block * 128) 128 line.first here).within
+  line-room : line-first.byte + 128 ≤ page_bytes unit.directory.page
+  line-room = whole-room unit.directory.page line-first.byte line-whole (lies (reach_of unit) (unit-sound unit) (block * 128) 128 line-first here).within
     where
       whole-room : (size : PageSize) (byte : ℕ) → byte % 128 ≡ 0 → byte < page_bytes size → byte + 128 ≤ page_bytes size
       whole-room size byte whole low = grind (arith, nat_tests)
 
-  line-located : located_by unit.registers (block * 128) 128 store ≡ Ok line.first
-  line-located = weaker unit.registers (block * 128) 128 line.write store line.first less told.located
+  line-lets : is_private line-first.segment ≡ false → (k : ℕ) → k < 128 → lets_at unit.directory unit.table unit.runner (moved line-first k) store ≡ true
+  line-lets own k below = lets-same unit.directory unit.legal unit.table unit.runner line-first k store line-whole below ∙ told.allowed own
 
-  line-lets : is_private line.first.segment ≡ false → (k : ℕ) → k < 128 → lets_at unit.directory unit.table unit.runner (moved line.first k) store ≡ true
-  line-lets own k below = lets-same unit.directory unit.legal unit.table unit.runner line.first k store line-whole below ∙ lets-load unit.table unit.directory unit.runner line.first line.write store less (told.allowed own)
+  line-marks : store ≡ true → is_private line-first.segment ≡ false → (k : ℕ) → k < 128 → is_marked_at unit.directory unit.pool.marked (moved line-first k) ≡ true
+  line-marks stores own k below = marked-same unit.directory unit.legal unit.pool.marked line-first k line-whole below ∙ told.written own stores
 
-  line-marks : store ≡ true → is_private line.first.segment ≡ false → (k : ℕ) → k < 128 → is_marked_at unit.directory unit.pool.marked (moved line.first k) ≡ true
-  line-marks stores own k below = marked-same unit.directory unit.legal unit.pool.marked line.first k line-whole below ∙ told.written own (grind (arith, nat_tests))
-
--- an access in a block that is known, to store where the line is, may be made
+-- an access in a block that is known, to be stored to where it stores, may be made
 pub opened-line :
-    (unit : Unit) (wants : Access) (line : OpenLine) → 0 < wants.bytes → wants.address % 128 + wants.bytes ≤ 128 → (wants.store && not line.write) ≡ false → known unit.lines (wants.address / 128) ≡ Some line
-    → (found : OpenLine) → found.first ≡ moved line.first (wants.address % 128) → found.frame ≡ line.frame → found.spot ≡ line.spot + wants.address % 128 → IsOpenFrom (reach_of unit) wants found
-opened-line unit wants line some fits less is =
+    (unit : Unit) (wants : Access) (spot : ℕ) → 0 < wants.bytes → wants.address % 128 + wants.bytes ≤ 128 → known unit.lines wants.store (wants.address / 128) ≡ Some spot
+    → IsOpenSpot (reach_of unit) wants (spot + wants.address % 128)
+opened-line unit wants spot some fits is =
     let block = wants.address / 128 in
-    opened-from unit wants line 128 some (omega (arith, fits)) fits (line-located unit block line wants.store less is) (line-room unit block line wants.store less is) (unit.opened block line is)
-    (line-lets unit block line wants.store less is) (line-marks unit block line wants.store less is)
+    let told = unit.opened wants.store block spot is in
+    opened-from unit wants (first_of unit.registers block wants.store) (spot / page_bytes unit.directory.page) spot 128 some (omega (arith, fits)) fits told.located (line-room unit block spot wants.store is)
+    told.frame told.is (line-lets unit block spot wants.store is) (line-marks unit block spot wants.store is)
 
--- and one in two blocks that are known, whose lines lie behind each other
+-- a block behind another in its page begins behind its last byte
+behind-at : (size : PageSize) (a : ℕ) → a % 128 ≡ 0 → a % page_bytes size + 128 < page_bytes size
+    → ((a + 128) / 2 ^ 28 ≡ a / 2 ^ 28) × ((a + 128) % 2 ^ 28 ≡ a % 2 ^ 28 + 128) × (a % 2 ^ 28 % page_bytes size + 128 < page_bytes size)
+behind-at Two a whole low = (omega (arith, whole, low), omega (arith, whole, low), omega (arith, whole, low))
+behind-at Four a whole low = (omega (arith, whole, low), omega (arith, whole, low), omega (arith, whole, low))
+
+behind-is :
+    (registers : Registers) (address : ℕ) (store : Bool) (first next : Virtual) → address % 128 ≡ 0 → address % page_bytes registers.page + 128 < page_bytes registers.page
+    → located_by registers address 128 store ≡ Ok first → located_by registers (address + 128) 128 store ≡ Ok next → next ≡ moved first 128
+behind-is registers address store first next whole low here there =
+    let one = under registers address 128 store first here in
+    let two = under registers (address + 128) 128 store next there in
+    let (window, offset, inside) = behind-at registers.page address whole low in
+    let same : two.register ≡ one.register = some-same (sym two.stands ∙ ap (λ i. slice_index_or registers.list i None) window ∙ one.stands) in
+    let page = same-page-on registers.page (address % 2 ^ 28) 128 inside in
+    let byte = rest-on registers.page (address % 2 ^ 28) 128 inside in
+    grind (arith, nat_tests, one.is, two.is, same, offset, page, byte)
+  where
+    some-same : {a b : SegmentRegister} → Some a ≡ Some b → a ≡ b
+    some-same same = cc
+
+-- and one in two blocks of a page that are known
 pub opened-pair :
-    (unit : Unit) (wants : Access) (line next : OpenLine) → 0 < wants.bytes → wants.bytes ≤ 64 → (wants.store && not line.write) ≡ false → (wants.store && not next.write) ≡ false
-    → known unit.lines (wants.address / 128) ≡ Some line → known unit.lines ((wants.address + 128) / 128) ≡ Some next → next.first ≡ moved line.first 128
-    → (found : OpenLine) → found.first ≡ moved line.first (wants.address % 128) → found.frame ≡ line.frame → found.spot ≡ line.spot + wants.address % 128 → IsOpenFrom (reach_of unit) wants found
-opened-pair unit wants line next some few less more is also behind =
-    let beyond : (k : ℕ) → 128 ≤ k → moved line.first k ≡ moved next.first (k - 128) =
-    λ k high. ap (λ b. (let v : Virtual = record line.first { byte = b } in v)) (let sum : line.first.byte + k ≡ line.first.byte + 128 + (k - 128) = omega (arith, high) in sum)
-    ∙ ap (λ v. moved v (k - 128)) (sym behind) in
+    (unit : Unit) (wants : Access) (spot next : ℕ) → 0 < wants.bytes → wants.bytes ≤ 64 → 128 < wants.address % 128 + wants.bytes
+    → wants.address % page_bytes unit.directory.page + wants.bytes ≤ page_bytes unit.directory.page
+    → known unit.lines wants.store (wants.address / 128) ≡ Some spot → known unit.lines wants.store (wants.address / 128 + 1) ≡ Some next
+    → IsOpenSpot (reach_of unit) wants (spot + wants.address % 128)
+opened-pair unit wants spot next some few over page is also =
     let block = wants.address / 128 in
-    let over = (wants.address + 128) / 128 in
-    let byte : next.first.byte ≡ line.first.byte + 128 = ap (λ (v : Virtual). v.byte) behind in
-    let second : over * 128 ≡ block * 128 + 128 = omega arith in
-    opened-from unit wants line 256 some (omega (arith, few)) (omega (arith, few))
-    (pair-located unit.registers (block * 128) wants.store line.first next.first (omega arith) byte (line-located unit block line wants.store less is)
-    (ap (λ a. located_by unit.registers a 128 wants.store) (sym second) ∙ line-located unit over next wants.store more also))
-    (omega (arith, byte, line-room unit over next wants.store more also)) (unit.opened block line is)
+    let first = first_of unit.registers block wants.store in
+    let then = first_of unit.registers (block + 1) wants.store in
+    let told = unit.opened wants.store block spot is in
+    let later : located_by unit.registers (block * 128 + 128) 128 wants.store ≡ Ok then =
+    ap (λ a. located_by unit.registers a 128 wants.store) (let sum : block * 128 + 128 ≡ (block + 1) * 128 = omega arith in sum) ∙ (unit.opened wants.store (block + 1) next also).located in
+    let low : block * 128 % page_bytes unit.registers.page + 128 < page_bytes unit.registers.page =
+    subst (λ size. block * 128 % page_bytes size + 128 < page_bytes size) (sym (registers-page (reach_of unit) (unit-sound unit))) (low-block unit.directory.page wants.address wants.bytes over page) in
+    let behind : then ≡ moved first 128 = behind-is unit.registers (block * 128) wants.store first then (omega arith) low told.located later in
+    let beyond : (k : ℕ) → 128 ≤ k → moved first k ≡ moved then (k - 128) =
+    λ k high. ap (λ b. (let v : Virtual = record first { byte = b } in v)) (let sum : first.byte + k ≡ first.byte + 128 + (k - 128) = omega (arith, high) in sum)
+    ∙ ap (λ v. moved v (k - 128)) (sym behind) in
+    let byte : then.byte ≡ first.byte + 128 = ap (λ (v : Virtual). v.byte) behind in
+    opened-from unit wants first (spot / page_bytes unit.directory.page) spot 256 some (omega (arith, few)) (omega (arith, few))
+    (pair-located unit.registers (block * 128) wants.store first then (omega arith) byte told.located later)
+    (omega (arith, byte, line-room unit (block + 1) next wants.store also)) told.frame told.is
     (λ own k below. elim (cases_lt k 128) [
-      | inl low ↦ line-lets unit block line wants.store less is own k low
+      | inl low ↦ line-lets unit block spot wants.store is own k low
       | inr high ↦
-          cc (beyond k high, line-lets unit over next wants.store more also (ap (λ (v : Virtual). is_private v.segment) behind ∙ own) (k - 128) (omega (arith, below, high)))
+          cc (beyond k high, line-lets unit (block + 1) next wants.store also (ap (λ (v : Virtual). is_private v.segment) behind ∙ own) (k - 128) (omega (arith, below, high)))
     ])
     (λ stores own k below. elim (cases_lt k 128) [
-      | inl low ↦ line-marks unit block line wants.store less is stores own k low
+      | inl low ↦ line-marks unit block spot wants.store is stores own k low
       | inr high ↦
-          cc (beyond k high, line-marks unit over next wants.store more also stores (ap (λ (v : Virtual). is_private v.segment) behind ∙ own) (k - 128) (omega (arith, below, high)))
+          cc (beyond k high, line-marks unit (block + 1) next wants.store also stores (ap (λ (v : Virtual). is_private v.segment) behind ∙ own) (k - 128) (omega (arith, below, high)))
     ])
+  where
+    low-block : (size : PageSize) (a n : ℕ) → 128 < a % 128 + n → a % page_bytes size + n ≤ page_bytes size → a / 128 * 128 % page_bytes size + 128 < page_bytes size
+    low-block Two a n over fits = omega (arith, over, fits)
+    low-block Four a n over fits = omega (arith, over, fits)
 
 -- its bytes lie there
 module _ (unit : Unit) (wants : Access) (first : Virtual) (frame : ℕ) (opens : IsOpenAt (reach_of unit) wants first frame) where
@@ -359,21 +405,21 @@ module _ (unit : Unit) (wants : Access) (first : Virtual) (frame : ℕ) (opens :
       (omega (arith, offset, open-lies.few), by_size unit.directory.page opens.within)
 
 -- and at its spot those bytes are in the frames
-module _ (unit : Unit) (wants : Access) (line : OpenLine) (some : 0 < wants.bytes) (opens : IsOpenFrom (reach_of unit) wants line) (n : ℕ) (same : n ≡ wants.bytes) where
-  pub spot-is : line.spot ≡ line.frame * page_bytes unit.pool.page + line.first.byte
-  spot-is = opens.spot ∙ ap (λ size. line.frame * page_bytes size + line.first.byte) (sym unit.fits.size)
+module _ (unit : Unit) (wants : Access) (spot : ℕ) (some : 0 < wants.bytes) (opens : IsOpenSpot (reach_of unit) wants spot) (n : ℕ) (same : n ≡ wants.bytes) where
+  pub spot-is : spot ≡ opens.frame * page_bytes unit.pool.page + opens.first.byte
+  spot-is = opens.is ∙ ap (λ size. opens.frame * page_bytes size + opens.first.byte) (sym unit.fits.size)
 
-  pub open-room : line.spot + n ≤ length unit.pool.bytes
-  open-room = omega (arith, spot-is, same, room unit line.first line.frame line.first.byte wants.bytes opens.opens.frame refl opens.opens.within)
+  pub open-room : spot + n ≤ length unit.pool.bytes
+  open-room = omega (arith, spot-is, same, room unit opens.first opens.frame opens.first.byte wants.bytes opens.opens.frame refl opens.opens.within)
 
-  pub open-long : length (slice_range unit.pool.bytes line.spot (line.spot + n)) ≡ n
+  pub open-long : length (slice_range unit.pool.bytes spot (spot + n)) ≡ n
   open-long = simp (length-take, length-drop) (omega (arith, open-room))
 
-  pub open-part : slice_range unit.pool.bytes line.spot (line.spot + n) ≡ bytes_from (byte_at (reach_of unit)) wants.address wants.bytes
+  pub open-part : slice_range unit.pool.bytes spot (spot + n) ≡ bytes_from (byte_at (reach_of unit)) wants.address wants.bytes
   open-part =
       cc (
-        part-shown (reach_of unit) (unit-sound unit) line.first wants.bytes some (open-lies unit wants line.first line.frame opens.opens) line.frame opens.opens.frame opens.opens.within,
-        open-bytes unit wants line.first line.frame opens.opens,
+        part-shown (reach_of unit) (unit-sound unit) opens.first wants.bytes some (open-lies unit wants opens.first opens.frame opens.opens) opens.frame opens.opens.frame opens.opens.within,
+        open-bytes unit wants opens.first opens.frame opens.opens,
       )
 
 -- what is refused stays

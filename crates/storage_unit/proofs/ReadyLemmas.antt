@@ -1,9 +1,9 @@
 -- The rows that a unit knows stay ready where none of their bytes changes.
-use Rattle.storage_unit.proofs.Common.{◌≡◌, ℕ, ◌+◌, ◌-◌, ◌*◌, ◌/◌, ◌%◌, ◌<◌, ◌≤◌, ◌⊎◌, ◌==◌, Bool, true, false, List, length, refl, sym, ◌∙◌, ap, subst, arith, inl, inr, Option, Some, None, IfSome, option_map, nat_le, if◌then◌else◌, slice_index, nat_tests, page_bytes, bytes_from, halfword_of, Located, Private, Shared, Refused, Virtual, Reach, is_private, offset_of, byte_place, seat_selected, byte_at, put_at, put_in_store, IsReachSound, Lies, big_number, ReadyRows, AreReady, after_store, private_byte, private_half}
+use Rattle.storage_unit.proofs.Common.{◌≡◌, ℕ, ◌+◌, ◌-◌, ◌*◌, ◌/◌, ◌%◌, ◌<◌, ◌≤◌, ◌⊎◌, ◌==◌, Bool, true, false, List, length, refl, sym, ◌∙◌, ap, subst, arith, inl, inr, Option, Some, None, IfSome, option_map, nat_le, if◌then◌else◌, slice_index, nat_tests, page_bytes, bytes_from, halfword_of, Located, Private, Shared, Refused, Virtual, Reach, is_private, offset_of, byte_place, seat_selected, byte_at, put_at, put_in_store, IsReachSound, Lies, big_number, ReadyRows, AreReady, PageSize, private_byte, private_half}
 use Rattle.flat_machine.specs.declared.ready.Ready.{Ready}
 use Rattle.flat_machine.specs.Ready.{has_second, IsReadyRowOf, IsReadyAt}
-use Rattle.ready_rows.specs.Known.{known, KnowsNoRow, overlaps, unless_met, with_row}
-use Rattle.ready_rows.specs.Tags.{row_bytes}
+use Rattle.ready_rows.specs.Known.{known, KnowsNoRow, unless_met, with_row}
+use Rattle.ready_rows.specs.Places.{overlaps, row_bytes}
 use Rattle.storage_unit.proofs.SizeLemmas.{rest-below, place-is}
 use Rattle.storage_unit.proofs.FillLemmas.{over-part}
 use Rattle.storage_unit.proofs.LocatedLemmas.{private-at}
@@ -88,10 +88,14 @@ put-low state sound at bytes lies k low outside = by_place (byte_place state.dir
         ∙ ap (slice_index state.pool.bytes) split
     by_place (Refused code) is = absurd (never-refused state.directory at code is)
 
+-- what is known after bytes were put: where they are private, no row that has one of them
+abbrev pub after_put : PageSize → Virtual → (bytes address : ℕ) → Option Ready → Option Ready
+after_put page first bytes address before = if is_private first.segment then unless_met (offset_of page first) bytes address before else before
+
 -- bytes that are put, where the rows that have private ones of them are known no more
 pub ready-put :
     (state : Reach) (sound : IsReachSound state) (at : Virtual) (bytes : List ℕ) → Lies state at (length bytes) → (rows after : ReadyRows) → AreReady rows state.pool.bytes state.runner
-    → ((address : ℕ) → known after address ≡ after_store state.directory.page at (length bytes) address (known rows address))
+    → ((address : ℕ) → known after address ≡ after_put state.directory.page at (length bytes) address (known rows address))
     → AreReady after (put_at state (byte_place state.directory at) bytes).pool.bytes state.runner
 ready-put state sound at bytes lies rows after ready left =
     ready-after rows after state.pool.bytes (put_at state (byte_place state.directory at) bytes).pool.bytes state.runner ready

@@ -1,8 +1,8 @@
 -- The lines that a unit knows: each may be accessed.
-use Rattle.std.specs.Prelude.{◌≡◌, ℕ, ◌+◌, ◌*◌, ◌%◌, ◌≤◌, ◌<◌, Bool, true, false, List, [], slice_index_or, Some, Ok}
+use Rattle.std.specs.Prelude.{◌≡◌, ℕ, ◌+◌, ◌*◌, ◌/◌, ◌%◌, ◌≤◌, ◌<◌, Bool, true, false, List, [], slice_index_or, Some, Result, Ok, Err}
 use Rattle.storage_unit.specs.Below.{Access, entry_at, grant_of, has, key_of, Layout, lets, line_of, located_by, look_up, page_bytes, page_of_line, Placed, Probe, Registers, Virtual}
-use Rattle.page_table.specs.declared.open_lines.OpenLine.{OpenLine}
 use Rattle.page_table.specs.declared.open_lines.OpenLines.{OpenLines}
+use Rattle.page_table.specs.declared.segment_regs.Check.{Check}
 use Rattle.page_table.specs.KnownLines.{known}
 use Rattle.storage_unit.specs.declared.unit_model.Reach.{Reach}
 use Rattle.storage_unit.specs.Bytes.{is_marked}
@@ -21,14 +21,22 @@ abbrev pub is_marked_at : Layout → List (List ℕ) → Virtual → Bool
 is_marked_at directory marked at =
     let line = line_of directory (flat_place directory at) in has (slice_index_or marked (page_of_line line) []) (line % 16)
 
--- the 128 addresses of a block are located from the line's first byte on, to be stored where the line is; its frame has their page, and that
--- byte at its spot; and where they are of the store, the entry lets, and they are marked if they are to be stored
-pub record IsLineOpened (directory : Layout) (table : Placed) (registers : Registers) (marked : List (List ℕ)) (runner block : ℕ) (line : OpenLine) : Type 0 where
-  pub located : located_by registers (block * 128) 128 line.write ≡ Ok line.first
-  pub frame : look_up table.keys (key_of line.first) ≡ Some line.frame
-  pub spot : line.spot ≡ line.frame * page_bytes directory.page + line.first.byte
-  pub allowed : is_private line.first.segment ≡ false → lets_at directory table runner line.first line.write ≡ true
-  pub written : is_private line.first.segment ≡ false → line.write ≡ true → is_marked_at directory marked line.first ≡ true
+-- where the 128 addresses of a block begin, to be stored or to be loaded
+abbrev pub location : Result Virtual Check → Virtual
+location (Ok at) = at
+location (Err check) = record { segment = 0; page = 0; byte = 0 }
+
+abbrev pub first_of : Registers → (block : ℕ) → (store : Bool) → Virtual
+first_of registers block store = location (located_by registers (block * 128) 128 store)
+
+-- the 128 addresses of a block are located from the line's first byte on, to be stored where that is asked; the frame of its spot has their
+-- page, and that byte at the spot; and where they are of the store, the entry lets, and they are marked if they are to be stored
+pub record IsLineOpened (directory : Layout) (table : Placed) (registers : Registers) (marked : List (List ℕ)) (runner block spot : ℕ) (store : Bool) : Type 0 where
+  pub located : located_by registers (block * 128) 128 store ≡ Ok (first_of registers block store)
+  pub frame : look_up table.keys (key_of (first_of registers block store)) ≡ Some (spot / page_bytes directory.page)
+  pub is : spot ≡ spot / page_bytes directory.page * page_bytes directory.page + (first_of registers block store).byte
+  pub allowed : is_private (first_of registers block store).segment ≡ false → lets_at directory table runner (first_of registers block store) store ≡ true
+  pub written : is_private (first_of registers block store).segment ≡ false → store ≡ true → is_marked_at directory marked (first_of registers block store) ≡ true
 
 -- the line of a byte is, where it is of the store
 abbrev pub IsMarkedAt : Reach → Virtual → Type 0
@@ -37,7 +45,7 @@ IsMarkedAt state at = is_private at.segment ≡ false → is_marked_at state.dir
 -- each line that is known is so
 abbrev pub AreOpened : OpenLines → Layout → Placed → Registers → List (List ℕ) → (runner : ℕ) → Type 0
 AreOpened lines directory table registers marked runner =
-    (block : ℕ) (line : OpenLine) → known lines block ≡ Some line → IsLineOpened directory table registers marked runner block line
+    (store : Bool) (block spot : ℕ) → known lines store block ≡ Some spot → IsLineOpened directory table registers marked runner block spot store
 
 -- an access may be made: it begins at this byte, and lies in one page, which this frame has
 pub record IsOpenAt (state : Reach) (wants : Access) (at : Virtual) (found : ℕ) : Type 0 where
@@ -52,8 +60,10 @@ AreMarked state at count =
     is_private at.segment ≡ false → (past : ℕ) → past < count
     → is_marked state.directory state.pool (flat_place state.directory at + past) ≡ true
 
--- an access may be made from the first byte of a line on, which is at its spot; the lines of a store are marked
-pub record IsOpenFrom (state : Reach) (wants : Access) (line : OpenLine) : Type 0 where
-  pub opens : IsOpenAt state wants line.first line.frame
-  pub spot : line.spot ≡ line.frame * page_bytes state.directory.page + line.first.byte
-  pub written : wants.store ≡ true → AreMarked state line.first wants.bytes
+-- an access may be made, and its bytes are from a spot on: it begins at this byte, whose frame has it there; the lines of a store are marked
+pub record IsOpenSpot (state : Reach) (wants : Access) (spot : ℕ) : Type 0 where
+  pub first : Virtual
+  pub frame : ℕ
+  pub opens : IsOpenAt state wants first frame
+  pub is : spot ≡ frame * page_bytes state.directory.page + first.byte
+  pub written : wants.store ≡ true → AreMarked state first wants.bytes

@@ -1,10 +1,9 @@
 -- The rows that a unit knows: each is made ready of the private bytes of who is selected.
-use Rattle.std.specs.Prelude.{◌≡◌, ℕ, ◌+◌, ◌-◌, ◌*◌, ◌≤◌, if◌then◌else◌, List, slice_index, Option, Some}
+use Rattle.std.specs.Prelude.{◌≡◌, ℕ, ◌+◌, ◌-◌, ◌*◌, ◌%◌, ◌^◌, ◌≤◌, nat_lt, if◌then◌else◌, List, slice_index, Option, Some}
 use Rattle.byteorder.specs.Endian.{big_number}
-use Rattle.storage_unit.specs.Below.{bytes_from, IsReadyRowOf, known, PageSize, unless_met, Virtual}
+use Rattle.storage_unit.specs.Below.{bytes_from, IsReadyRowOf, known, unless_met}
 use Rattle.flat_machine.specs.declared.ready.Ready.{Ready}
 use Rattle.ready_rows.specs.declared.rows.ReadyRows.{ReadyRows}
-use Rattle.storage_unit.specs.Places.{is_private, offset_of}
 
 -- the private byte at an offset of the seat with this identifier, and the halfword
 abbrev pub private_byte : List ℕ → (runner offset : ℕ) → ℕ
@@ -23,6 +22,6 @@ pub record AreReady (rows : ReadyRows) (bytes : List ℕ) (runner : ℕ) : Type 
   pub within : (address : ℕ) (row : Ready) → known rows address ≡ Some row → address + 4 ≤ 16384
   pub of_row : (address : ℕ) (row : Ready) → known rows address ≡ Some row → IsMadeOf bytes runner address row
 
--- what is known at an address after so many bytes were stored from a byte on: where that one is private, no row that has one of them
-abbrev pub after_store : PageSize → Virtual → (bytes address : ℕ) → Option Ready → Option Ready
-after_store page first bytes address before = if is_private first.segment then unless_met (offset_of page first) bytes address before else before
+-- what is known at an address after so many bytes were stored from a spot on: where that one is private, no row that has one of them
+abbrev pub after_store : (spot bytes address : ℕ) → Option Ready → Option Ready
+after_store spot bytes address before = if nat_lt spot (2 ^ 18) then unless_met (spot % 16384) bytes address before else before

@@ -6,14 +6,12 @@ ghost use Rattle.storage_unit.specs.Reach.{answer_to, begins_at, refuses_past, r
 ghost use Rattle.storage_unit.specs.Reached.{is_absent, Lies, past_absent, past_kept, past_refused};
 ghost use Rattle.storage_unit.specs.Held.{frame_found};
 ghost use Rattle.storage_unit.specs.Accesses.{AnswersAt};
-ghost use Rattle.storage_unit.specs.OpenLines.{IsMarkedAt, IsOpenAt, IsOpenFrom};
+ghost use Rattle.storage_unit.specs.OpenLines.{IsMarkedAt, IsOpenAt, IsOpenSpot};
 
 use super::private::PRIVATE;
-use super::sizes::{
-    byte_past, first_frame, is_behind, is_in_line, offset_of, rest_of_line, spot_of,
-};
+use super::sizes::{byte_past, first_frame, is_in_line, offset_of, rest_of_line, spot_of};
 use super::unit::Unit;
-use page_table::{OpenLine, Virtual};
+use page_table::Virtual;
 use romp_cpu::{Access, Fault, Probe};
 
 impl Unit {
@@ -210,31 +208,18 @@ impl Unit {
         }
     }
 
-    /// The known line of an access from where that begins, to store only where it is known to be stored.
+    /// Where the bytes of an access lie, if they are in a line that is known, to be stored where the access is.
     #[inline(always)]
-    pub(super) fn known_line(&self, wants: &Access) -> Option<OpenLine>
+    pub(super) fn known_spot(&self, wants: &Access) -> Option<usize>
         requires { 0 < wants.now.bytes }
-        ensures { IfSome result (IsOpenFrom (reach_of self.now) wants.now) }
+        ensures { IfSome result (IsOpenSpot (reach_of self.now) wants.now) }
     {
-        let line = self.lines.at(wants.address)?;
+        let spot = self.lines.at(wants.address / 128, wants.store)?;
         let offset = wants.address % 128;
         if offset + u32::from(wants.bytes) > 128 {
             return None;
         }
-        if wants.store && !line.write {
-            return None;
-        }
-        let first = Virtual {
-            segment: line.first.segment,
-            page: line.first.page,
-            byte: line.first.byte + offset as u16,
-        };
-        Some(OpenLine {
-            first,
-            frame: line.frame,
-            spot: line.spot + offset,
-            write: line.write,
-        })
+        Some(spot as usize + offset as usize)
     }
 
     /// Whether an access is to store to a byte that a frame has, and the line of that is marked where it is one of the store.
@@ -254,49 +239,24 @@ impl Unit {
         }
     }
 
-    /// The known lines of an access that begins in one block and ends in the next, where they lie behind each other in one
-    /// page, from where the access begins; to store only where both are known to be stored.
+    /// The same of an access that may end in the next block of its page, whose line is known then too.
     #[inline(always)]
-    fn known_pair(&self, wants: &Access) -> Option<OpenLine>
+    pub(super) fn known_spots(&self, wants: &Access) -> Option<usize>
         requires { (0 < wants.now.bytes) × (wants.now.bytes ≤ 64) }
-        ensures { IfSome result (IsOpenFrom (reach_of self.now) wants.now) }
+        ensures { IfSome result (IsOpenSpot (reach_of self.now) wants.now) }
     {
+        let block = wants.address / 128;
+        let spot = self.lines.at(block, wants.store)?;
         let offset = wants.address % 128;
-        if offset + u32::from(wants.bytes) <= 128 || wants.address >= 0xffff_ff80 {
+        if offset + u32::from(wants.bytes) <= 128 {
+            return Some(spot as usize + offset as usize);
+        }
+        let page = u32::from(self.directory.page().bytes());
+        if wants.address % page + u32::from(wants.bytes) > page {
             return None;
         }
-        let front = self.lines.at(wants.address)?;
-        let back = self.lines.at(wants.address + 128)?;
-        if wants.store && !(front.write && back.write) {
-            return None;
-        }
-        if !is_behind(front.first, back.first) {
-            return None;
-        }
-        let first = Virtual {
-            segment: front.first.segment,
-            page: front.first.page,
-            byte: front.first.byte + offset as u16,
-        };
-        Some(OpenLine {
-            first,
-            frame: front.frame,
-            spot: front.spot + offset,
-            write: front.write,
-        })
-    }
-
-    /// The known line of an access from where that begins, or its known lines.
-    #[inline(always)]
-    pub(super) fn known_lines(&self, wants: &Access) -> Option<OpenLine>
-        requires { (0 < wants.now.bytes) × (wants.now.bytes ≤ 64) }
-        ensures { IfSome result (IsOpenFrom (reach_of self.now) wants.now) }
-    {
-        let line = self.known_line(wants);
-        if line.is_some() {
-            return line;
-        }
-        self.known_pair(wants)
+        let _behind = self.lines.at(block + 1, wants.store)?;
+        Some(spot as usize + offset as usize)
     }
 
     /// The lines of an access that may be made are known from now on, of the one or two blocks of 128 addresses in which it
@@ -326,20 +286,11 @@ impl Unit {
             page: first.page,
             byte: first.byte + u16::from(past),
         };
-        let whole = Virtual {
-            segment: first.segment,
-            page: first.page,
-            byte: at.byte / 128 * 128,
-        };
         let write = self.is_written(frame, at, wants.store);
         self.lines.keep(
             wants.address + u32::from(past),
-            OpenLine {
-                first: whole,
-                frame,
-                spot: spot_of(self.directory.page(), frame, whole.byte),
-                write,
-            },
+            spot_of(self.directory.page(), frame, at.byte / 128 * 128),
+            write,
         );
     }
 

@@ -6,12 +6,13 @@ ghost use Rattle.storage_unit.specs.Reach.{begins_at, put_from};
 ghost use Rattle.storage_unit.specs.Reached.{CanReach, Lies, shown_from};
 ghost use Rattle.storage_unit.specs.Held.{frame_found};
 ghost use Rattle.storage_unit.specs.Accesses.{IsLoaded, IsReadIf, AreStored, IsWrittenIf, loaded, saved};
-ghost use Rattle.storage_unit.specs.OpenLines.{IsOpenFrom};
+ghost use Rattle.storage_unit.specs.OpenLines.{IsOpenSpot};
 
+use super::sizes::spot_of;
 use super::stored_over::{drop_rows, use_bytes};
 use super::unit::Unit;
 use flat_machine::{fill, gather};
-use page_table::{OpenLine, Virtual};
+use page_table::Virtual;
 use romp_cpu::{Access, Probe};
 
 impl Unit {
@@ -104,9 +105,9 @@ impl Unit {
         ensures { reach_of self.new ≡ put_from (reach_of self.old) first from.now }
     {
         if let Some(frame) = self.frame_at(first) {
-            let page = self.directory.page();
-            drop_rows(&mut self.rows, page, first, from.len() as u32);
-            use_bytes(&mut self.used, page, first, from.len() as u32);
+            let spot = spot_of(self.directory.page(), frame, first.byte) as usize;
+            drop_rows(&mut self.rows, spot, from.len());
+            use_bytes(&mut self.used, spot, from.len());
             self.pool
                 .part_mut(frame, usize::from(first.byte), from.len())
                 .copy_from_slice(from);
@@ -122,68 +123,63 @@ impl Unit {
         requires frame { frame_found (reach_of self.old) first ≡ Some frame }
         ensures { reach_of self.new ≡ put_from (reach_of self.old) first (stored_bytes regs.now bytes from) }
     {
-        let page = self.directory.page();
-        let count = u32::from(bytes);
-        drop_rows(&mut self.rows, page, first, count);
-        use_bytes(&mut self.used, page, first, count);
+        let spot = spot_of(self.directory.page(), frame, first.byte) as usize;
+        let count = usize::from(bytes);
+        drop_rows(&mut self.rows, spot, count);
+        use_bytes(&mut self.used, spot, count);
         gather(
             from,
             regs,
-            self.pool
-                .part_mut(frame, usize::from(first.byte), usize::from(bytes)),
+            self.pool.part_mut(frame, usize::from(first.byte), count),
         );
     }
 
-    /// Fills registers with the bytes of an access from where a line that is known has them.
+    /// Fills registers with the bytes of an access, if they lie from a spot on that is given.
     #[inline(always)]
-    fn fill_from(&self, line: OpenLine, wants: &Access, to: u8, sign: bool, regs: &mut [u32; 16])
+    fn fill_if(
+        &self,
+        spot: Option<usize>,
+        wants: &Access,
+        to: u8,
+        sign: bool,
+        regs: &mut [u32; 16],
+    ) -> bool
         requires fits { FitsFrom wants.now.bytes to }
-        requires open { IsOpenFrom (reach_of self.now) wants.now line }
-        ensures { regs.new ≡ loaded (reach_of self.now) wants.now to sign regs.old }
+        requires open { IfSome spot (IsOpenSpot (reach_of self.now) wants.now) }
+        ensures { IsReadIf result self.now wants.now to sign regs.old regs.new }
     {
-        let part = self
-            .pool
-            .spot_part(line.spot as usize, usize::from(wants.bytes));
+        let Some(spot) = spot else {
+            return false;
+        };
+        let part = self.pool.spot_part(spot, usize::from(wants.bytes));
         fill(to, sign, part, regs);
+        true
     }
 
     /// Writes the bytes of registers over those of a line that is known, which are marked.
     #[inline(always)]
-    fn gather_over(&mut self, line: OpenLine, wants: &Access, from: u8, regs: &[u32; 16])
+    fn gather_over(&mut self, spot: usize, wants: &Access, from: u8, regs: &[u32; 16])
         requires wants { FitsRegisters wants.now true from }
-        requires lies { Lies (reach_of self.old) line.first wants.now.bytes }
-        requires open { IsOpenFrom (reach_of self.old) wants.now line }
+        requires open { IsOpenSpot (reach_of self.old) wants.now spot }
         ensures { reach_of self.new ≡ saved (reach_of self.old) wants.now from regs.now }
     {
-        let page = self.directory.page();
-        let count = u32::from(wants.bytes);
-        drop_rows(&mut self.rows, page, line.first, count);
-        use_bytes(&mut self.used, page, line.first, count);
-        gather(
-            from,
-            regs,
-            self.pool
-                .spot_mut(line.spot as usize, usize::from(wants.bytes)),
-        );
+        let count = usize::from(wants.bytes);
+        drop_rows(&mut self.rows, spot, count);
+        use_bytes(&mut self.used, spot, count);
+        gather(from, regs, self.pool.spot_mut(spot, count));
     }
 
-    /// Writes the bytes of registers over those of an access in a line, if one is given.
+    /// Writes the bytes of registers over those of an access, if they lie from a spot on that is given.
     #[inline(always)]
-    fn gather_if(
-        &mut self,
-        line: Option<OpenLine>,
-        wants: &Access,
-        from: u8,
-        regs: &[u32; 16],
-    ) -> bool
+    fn gather_if(&mut self, spot: Option<usize>, wants: &Access, from: u8, regs: &[u32; 16]) -> bool
         requires wants { FitsRegisters wants.now true from }
-        requires open { IfSome line (IsOpenFrom (reach_of self.old) wants.now) }
+        requires open { IfSome spot (IsOpenSpot (reach_of self.old) wants.now) }
         ensures { IsWrittenIf result self.old self.new wants.now from regs.now }
     {
-        match line {
+        match spot {
             None => false,
-            Some(line) => {
-                self.gather_over(line, wants, from, regs);
+            Some(spot) => {
+                self.gather_over(spot, wants, from, regs);
                 true
             }
         }
@@ -256,11 +252,7 @@ impl Unit {
             bytes,
             store: false,
         };
-        let Some(line) = self.known_line(&wants) else {
-            return false;
-        };
-        self.fill_from(line, &wants, to, sign, regs);
-        true
+        self.fill_if(self.known_spot(&wants), &wants, to, sign, regs)
     }
 
     /// Writes the bytes of registers over so many from an address on, if they lie in a line that is known to be stored.
@@ -280,8 +272,8 @@ impl Unit {
             bytes,
             store: true,
         };
-        let line = self.known_line(&wants);
-        self.gather_if(line, &wants, from, regs)
+        let spot = self.known_spot(&wants);
+        self.gather_if(spot, &wants, from, regs)
     }
 
     /// The same of bytes that lie in one or two lines that are known.
@@ -302,11 +294,7 @@ impl Unit {
             bytes,
             store: false,
         };
-        let Some(line) = self.known_lines(&wants) else {
-            return false;
-        };
-        self.fill_from(line, &wants, to, sign, regs);
-        true
+        self.fill_if(self.known_spots(&wants), &wants, to, sign, regs)
     }
 
     /// The same of bytes that lie in one or two lines that are known to be stored.
@@ -326,7 +314,7 @@ impl Unit {
             bytes,
             store: true,
         };
-        let line = self.known_lines(&wants);
-        self.gather_if(line, &wants, from, regs)
+        let spot = self.known_spots(&wants);
+        self.gather_if(spot, &wants, from, regs)
     }
 }

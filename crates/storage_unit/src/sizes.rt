@@ -61,15 +61,6 @@ pub fn byte_past(page: PageSize, first: Virtual, past: u16) -> Virtual
     )
 }
 
-/// Whether a byte is the 128th behind another in its page.
-pub fn is_behind(first: Virtual, next: Virtual) -> bool
-    ensures { result ≡ true → next ≡ record first { byte = first.byte + 128 } }
-{
-    next.segment == first.segment
-        && next.page == first.page
-        && u32::from(next.byte) == u32::from(first.byte) + 128
-}
-
 /// How many bytes of its line begin with the one at a place of the store.
 pub fn rest_of_line(page: PageSize, place: u32) -> u16
     ensures value { result + place % line_bytes page ≡ line_bytes page }

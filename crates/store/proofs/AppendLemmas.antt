@@ -1,8 +1,6 @@
 -- What the images of an append stand for.
-use Rattle.store.proofs.Common.{◌≡◌, inl, inr, ℕ, zero, suc, ◌+◌, ◌*◌, ◌-◌, ◌%◌, ◌^◌, ◌<◌, ◌≤◌, true, false, List, [], ◌∷◌, ◌++◌, length, take, drop, refl, sym, ◌∙◌, ap, subst, arith, slice_index, slice_set, option_map, drop-drop, take_all, take-set-le, drop-set-lt, length-set, get_or-set_same, length-take-le, line_count, PageSize, Which, Header, number_at, home_at, bank_at, entry_bytes, RecordLine, lines_from, wrong_line, record_bytes, area_of, IsStore, stands, one_more, same_number_at, same_lines, same_byte, later_front, shorter_front, Around, area_within, store_same, stands_same, stands_more, store_more, Ghosts, held_of, Inside, is_open, HasBody, IsSafe, BankView, bank_place, end_of, area_end, begun_of, needed_end, with_record, noted, AreNewest, buffered, begun_count, begun_lines, kept_of, IsWholeBank, TracksBank, IsEither, HoldsOneOf, Option, None, Some, unwrap_or, IsSome, ◌==◌, nat_tests, cases_Bool}
-use Rattle.store_format.specs.Body.{IsBody}
+use Rattle.store.proofs.Common.{◌≡◌, inl, inr, ℕ, zero, suc, ◌+◌, ◌*◌, ◌-◌, ◌%◌, ◌^◌, ◌<◌, ◌≤◌, true, false, List, [], ◌∷◌, ◌++◌, length, take, drop, refl, sym, ◌∙◌, ap, subst, arith, slice_index, slice_set, option_map, drop-drop, take_all, take-set-le, drop-set-lt, length-set, get_or-set_same, length-take-le, line_count, PageSize, Which, Header, number_at, home_at, bank_at, entry_bytes, RecordLine, lines_from, wrong_line, record_bytes, area_of, IsStore, stands, one_more, same_number_at, same_lines, same_byte, later_front, shorter_front, Around, area_within, store_same, stands_same, stands_more, store_more, Ghosts, held_of, Inside, is_open, HasBody, IsSafe, BankView, bank_place, end_of, area_end, begun_of, needed_end, with_record, noted, AreNewest, buffered, begun_count, begun_lines, kept_of, IsWholeBank, TracksBank, IsEither, HoldsOneOf, Option, None, Some, unwrap_or, IsSome, ◌==◌, nat_tests, cases_Bool, IsBody, whole}
 use Rattle.store_format.proofs.Stores as stores
-use Rattle.store.proofs.DeedLemmas.{whole}
 
 -- a store, and a body that adds these lines to it
 pub record Ready (held : List ℕ) (header : Header) (which : Which) (base gate : ℕ) (records : List (List RecordLine)) (count : ℕ) (lines : List RecordLine) (body : List ℕ) : Type 0 where

@@ -1,25 +1,8 @@
 -- What is asked of a disk, by the bank that is kept and by the bytes that it shows.
-use Rattle.std.proofs.Common.{◌≡◌, inl, inr, ℕ, zero, suc, ◌+◌, ◌*◌, ◌%◌, ◌^◌, ◌<◌, ◌≤◌, Bool, true, false, List, [], ◌∷◌, ◌++◌, length, refl, sym, ◌∙◌, ap, subst, append_assoc, arith}
-use Rattle.std.proofs.lemmas.Bool.Decides.{nat_tests}
-use Rattle.std.proofs.lemmas.List.{length-replicate}
-use Rattle.std.specs.Prelude.{Option, None, Some, nat_lt, replicate, slice_index_or, unwrap_or}
-use Rattle.lines.specs.declared.line_geometry.PageSize.{PageSize}
+use Rattle.store.proofs.Lemmas.{◌≡◌, inl, inr, ℕ, zero, suc, ◌+◌, ◌*◌, ◌%◌, ◌^◌, ◌<◌, ◌≤◌, Bool, true, false, List, [], ◌∷◌, ◌++◌, length, refl, sym, ◌∙◌, ap, subst, append_assoc, arith, nat_tests, length-replicate, Option, None, Some, nat_lt, replicate, slice_index_or, unwrap_or, PageSize, cut_behind, did_none, did_on, did_since, since_as, since_on, base_of, area_at, bank_at, bank_of, BankContent, B, body_deeds, chosen, copy_deeds, Deed, entry_bytes, gate_deeds, Header, Holds, home_at, home_deeds, IsBody, line_bytes, line_count, option_map, other, RecordLine, turn_deeds, Which, Kept, emptied, roomy, checkpoint_deeds, CommitsDeeds, homes_written, IsRecordBody, KeepsDeeds, KeepsRecord, KeptAsks, turn_written, area_end, BankView, bank_number, bank_place, begun_of, end_of, needed_end, newest_place, StoreView, Shows, bank_turned, placed, place_is, roomy_fits, roomy_full, shown_store}
 use Rattle.outside.specs.Deeds.{Did, DidSome, IsCut, Since}
-use Rattle.outside.proofs.DeedLemmas.{cut_behind, did_none, did_on, did_since, since_as, since_on}
-use Rattle.store_format.specs.Bank.{base_of}
 use Rattle.store_format.specs.Asked.{chosen_content, chosen_number, checkpoint_asks, CommitAsks, HasRoom, IsRecordAt, MakesRoom, gate_of, record_end, records_of, area_end_of}
-use Rattle.store.specs.Below.{area_at, bank_at, bank_of, BankContent, B, body_deeds, chosen, copy_deeds, Deed, entry_bytes, gate_deeds, Header, Holds, home_at, home_deeds, IsBody, line_bytes, line_count, option_map, other, RecordLine, turn_deeds, Which}
-use Rattle.store.specs.declared.keep.Kept.{Kept}
 use Rattle.store.specs.declared.keep.Kept.TheVariants.{Done, Unwritten, Doubt}
-use Rattle.store.specs.Committed.{emptied, roomy}
-use Rattle.store.specs.Exact.{checkpoint_deeds, CommitsDeeds, homes_written, IsRecordBody, KeepsDeeds, KeepsRecord, KeptAsks, turn_written}
-use Rattle.store.specs.Kept.{area_end, BankView, bank_number, bank_place, begun_of, end_of, needed_end, newest_place}
-use Rattle.store.specs.KeptStore.{StoreView}
-use Rattle.store.specs.Shows.{Shows}
-use Rattle.store.specs.Turned.{bank_turned, placed}
-use Rattle.store.proofs.AppendLemmas.{place_is}
-use Rattle.store.proofs.CommitLemmas.{roomy_fits, roomy_full}
-use Rattle.store.proofs.ShowLemmas.{shown_store}
 
 -- no bank is the other one
 pub not_other : (which : Which) → which ≡ other which → ⊥

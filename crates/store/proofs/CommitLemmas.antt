@@ -1,9 +1,7 @@
 -- A record that is added behind a checkpoint.
-use Rattle.store.proofs.Common.{Option, None, Some, unwrap_or, nat_lt, if◌then◌else◌, Which, RecordLine, Standing, stands, one_more, BankView, area_end, needed_end, begun_of, IsEither, placed, bank_turned, PageSize, emptied, roomy, other, slice_set, number_by_answer, IsKeptAfter, IsMoreBy, SameShape, CountsKept, FailedLeaves, bank_appended, Elapses, FewerLater, Leaves, held_of, leaves_on, OnlyWrites, IsSome, Header, IsSameBut, IsCheckpointOffset, IsCommitOffset, HoldsCommitted, LeavesCommitted, IsApart, with_record, ◌≡◌, inl, inr, ⊎_elim, ℕ, ◌+◌, ◌<◌, ◌≤◌, Bool, true, false, List, [], refl, subst, ◌∙◌, ap, arith, nat_tests, Kept, Ghosts}
-use Rattle.store.specs.Kept.{bank_number}
+use Rattle.store.proofs.Common.{Option, None, Some, unwrap_or, nat_lt, if◌then◌else◌, Which, RecordLine, Standing, stands, one_more, BankView, area_end, needed_end, begun_of, IsEither, placed, bank_turned, PageSize, emptied, roomy, other, slice_set, number_by_answer, IsKeptAfter, IsMoreBy, SameShape, CountsKept, FailedLeaves, bank_appended, Elapses, FewerLater, Leaves, held_of, leaves_on, OnlyWrites, IsSome, Header, IsSameBut, IsCheckpointOffset, IsCommitOffset, HoldsCommitted, LeavesCommitted, IsApart, with_record, ◌≡◌, inl, inr, ⊎_elim, ℕ, ◌+◌, ◌<◌, ◌≤◌, Bool, true, false, List, [], refl, subst, ◌∙◌, ap, arith, nat_tests, Kept, Ghosts, bank_number, option_map}
 use Rattle.store.proofs.HomeLemmas.{but_between, more_offsets}
 use Rattle.store.proofs.WriteLemmas.{held_since}
-use Rattle.std.specs.Option.{option_map}
 use Rattle.store.proofs.TurnLemmas.{one_more_placed}
 use Rattle.store.specs.declared.keep.Kept.TheVariants as keeping
 

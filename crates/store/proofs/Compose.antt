@@ -1,9 +1,8 @@
 -- A page whose home lines have the newest lines over them.
-use Rattle.store.proofs.Common.{◌≡◌, inl, inr, ℕ, ◌+◌, ◌*◌, ◌-◌, ◌<◌, ◌≤◌, List, length, take, drop, get_or, refl, sym, ◌∙◌, ap, arith, Option, None, Some, IfSome, fold, slice_range, is_some, false, drop-drop, drop-take, take-take, length-drop, length-take-le, places, page_count, line_count, PageSize, page-lines, line_bytes, Header, home_at, laid, home_of, stands, stands_is, bytes_at, StoreView, Shows, page_in, newest_over, list_any, nat_tests, ◌++◌, append_assoc, newest_place, cases_eq, lines-below, lines-within}
+use Rattle.store.proofs.Common.{◌≡◌, inl, inr, ℕ, ◌+◌, ◌*◌, ◌-◌, ◌<◌, ◌≤◌, List, length, take, drop, get_or, refl, sym, ◌∙◌, ap, arith, Option, None, Some, IfSome, fold, slice_range, is_some, false, drop-drop, drop-take, take-take, length-drop, length-take-le, places, page_count, line_count, PageSize, page-lines, line_bytes, Header, home_at, laid, home_of, stands, stands_is, bytes_at, StoreView, Shows, page_in, newest_over, list_any, nat_tests, ◌++◌, append_assoc, newest_place, cases_eq, lines-below, lines-within, overlaid}
 use Rattle.store.proofs.Newest.{bytes_of_line, newest_bytes, same_line, other_line, same_lines, Agree, store_agrees}
 use Rattle.std.proofs.lemmas.List.Folds.{list_any_at}
 use Rattle.store.proofs.ShowLemmas.{shown_store}
-use Rattle.lines.specs.Overlay.{overlaid}
 
 -- a part of a list written over in place
 pub spliced : (count : ℕ) (page front rest line tail part : List ℕ) (at : ℕ) → front ≡ take at page → rest ≡ drop at page → tail ≡ drop count rest → line ≡ part → length part ≡ count → front ++ (line ++ tail) ≡ overlaid page at part

@@ -1,7 +1,5 @@
 -- What a record costs.
-use Rattle.std.proofs.Common.{◌≡◌, ℕ, ◌+◌, ◌∷◌, [], ◌++◌, length, refl, arith}
-use Rattle.store.specs.Below.{body_deeds, gate_deeds}
-use Rattle.store.specs.Exact.{bytes_written, RecordCosts}
+use Rattle.store.proofs.Common.{◌≡◌, ℕ, ◌+◌, ◌∷◌, [], ◌++◌, length, refl, arith, body_deeds, gate_deeds, bytes_written, RecordCosts}
 
 pub record_costs : RecordCosts
 record_costs bank body is =

@@ -1,11 +1,7 @@
 -- Bytes that stay, and newest bytes that are written home.
-use Rattle.std.specs.Prelude.{◌∷◌, []}
-use Rattle.store.proofs.Common.{◌≡◌, inl, inr, ℕ, ◌+◌, ◌*◌, ◌-◌, ◌<◌, ◌≤◌, List, length, take, drop, refl, sym, ◌∙◌, ap, subst, arith, Option, None, Some, fold, drop-drop, take_at, length-drop, length-take-le, line_count, PageSize, Which, Header, home_at, bank_at, BankView, end_of, line_bytes_of, RecordLine, IsStore, laid, home_of, shorter_front, rest_front, area_within, store_front, behind_bytes, bytes_at, written, Torn, torn_by_written, home_line, home_place, copied, TornLine, IsHomeOffset, IsHomeCovered, IsHomed, cases_lt, cases_eq, nat_tests, get_or-drop, same_byte, IsSameBut, IsApart, slice_index, store_big, newest_place, lines-below}
-use Rattle.lines.specs.Segments.{line_bytes}
+use Rattle.store.proofs.Common.{◌≡◌, inl, inr, ℕ, ◌+◌, ◌*◌, ◌-◌, ◌<◌, ◌≤◌, List, length, take, drop, refl, sym, ◌∙◌, ap, subst, arith, Option, None, Some, fold, drop-drop, take_at, length-drop, length-take-le, line_count, PageSize, Which, Header, home_at, bank_at, BankView, end_of, line_bytes_of, RecordLine, IsStore, laid, home_of, shorter_front, rest_front, area_within, store_front, behind_bytes, bytes_at, written, Torn, torn_by_written, home_line, home_place, copied, TornLine, IsHomeOffset, IsHomeCovered, IsHomed, cases_lt, cases_eq, nat_tests, get_or-drop, same_byte, IsSameBut, IsApart, slice_index, store_big, newest_place, lines-below, ◌∷◌, [], line_bytes, Wrote, copy_deeds}
 use Rattle.store.proofs.Newest.{bytes_of_line, newest_bytes, store_agrees, held_records, newest_within, same_lines}
 use Rattle.store.proofs.NoteLemmas.{drop-overlaid}
-use Rattle.store.specs.Below.{Wrote, copy_deeds}
-use Rattle.store.specs.Below.{Wrote, copy_deeds}
 
 pub same_behind : (k i : ℕ) (xs ys : List ℕ) → drop k xs ≡ drop k ys → k ≤ i → slice_index xs i ≡ slice_index ys i
 same_behind k i xs ys same after =

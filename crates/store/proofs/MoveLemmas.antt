@@ -1,6 +1,5 @@
 -- The other bank, its head, and the selector.
-use Rattle.store.proofs.Common.{◌≡◌, inl, inr, ◌⊎◌, ℕ, ◌+◌, ◌%◌, ◌^◌, ◌<◌, ◌≤◌, List, [], ◌∷◌, length, drop, refl, ◌∙◌, ap, arith, slice_index, ◌==◌, if◌then◌else◌, fold, Which, A, B, Header, home_at, bank_at, RecordLine, area_at, IsStore, HasHeader, laid, home_of, chosen, stands, shorter_front, same_byte, area_within, same_header, header_held, base_behind, store_behind, store_front, store_empty, store_big, stands_alike, behind_bytes, line_count, written, Torn, torn_by_written, BankView, head_bytes, other, selector_of, IsSameBut, IsHomeOffset, IsCheckpointOffset, IsHomeCovered, IsHomed, IsSame, nat_tests, false, ◌++◌, append_assoc, big_bytes, big_number, big_number-reads_back, base_of, overlaid_within, ◌-◌}
-use Rattle.store.specs.Kept.{bank_number}
+use Rattle.store.proofs.Common.{◌≡◌, inl, inr, ◌⊎◌, ℕ, ◌+◌, ◌%◌, ◌^◌, ◌<◌, ◌≤◌, List, [], ◌∷◌, length, drop, refl, ◌∙◌, ap, arith, slice_index, ◌==◌, if◌then◌else◌, fold, Which, A, B, Header, home_at, bank_at, RecordLine, area_at, IsStore, HasHeader, laid, home_of, chosen, stands, shorter_front, same_byte, area_within, same_header, header_held, base_behind, store_behind, store_front, store_empty, store_big, stands_alike, behind_bytes, line_count, written, Torn, torn_by_written, BankView, head_bytes, other, selector_of, IsSameBut, IsHomeOffset, IsCheckpointOffset, IsHomeCovered, IsHomed, IsSame, nat_tests, false, ◌++◌, append_assoc, big_bytes, big_number, big_number-reads_back, base_of, overlaid_within, ◌-◌, bank_number}
 use Rattle.store.proofs.HomeLemmas.{more_offsets, but_on, torn_but, covered_store, covered_bytes, homed_bytes, same_behind}
 use Rattle.store.proofs.NoteLemmas.{drop-overlaid, byte_written}
 

@@ -1,7 +1,5 @@
 -- Newest places by pages of lines.
-use Rattle.std.specs.Prelude.{◌≡◌, ℕ, zero, suc, Bool, ◌+◌, ◌-◌, ◌/◌, ◌^◌, true, false, is_some, ◌<◌, ◌≤◌, List, [], ◌∷◌, length, Option, None, slice_index_or}
-use Rattle.store.proofs.Common.{inl, inr, refl, sym, ◌∙◌, ap, arith, length-overlaid, replicate, cases_eq, cases_lt, nat_tests, overlaid, overlaid_within, overlaid_before, overlaid_behind}
-use Rattle.store.specs.Places.{IsClearedAt}
+use Rattle.store.proofs.Common.{inl, inr, refl, sym, ◌∙◌, ap, arith, length-overlaid, replicate, cases_eq, cases_lt, nat_tests, overlaid, overlaid_within, overlaid_before, overlaid_behind, ◌≡◌, ℕ, zero, suc, Bool, ◌+◌, ◌-◌, ◌/◌, ◌^◌, true, false, is_some, ◌<◌, ◌≤◌, List, [], ◌∷◌, length, Option, None, slice_index_or, IsClearedAt}
 use Rattle.store.specs.declared.places.Places.TheInside.{Inside}
 
 -- where no line has a place

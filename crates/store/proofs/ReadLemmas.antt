@@ -1,6 +1,5 @@
 -- Records that are read, and a walk from gate to gate of a bank.
-use Rattle.store.proofs.Common.{◌≡◌, ℕ, suc, ◌+◌, ◌*◌, ◌-◌, ◌<◌, ◌≤◌, true, false, List, [], ◌∷◌, take, drop, refl, sym, subst, ◌∙◌, ap, arith, slice_index, nat_tests, drop-drop, take-take, get_or-take, get_or-drop, big_number, big_from-take, PageSize, entry_bytes, RecordLine, lines_from, wrong_line, count_of, lined_gate, gate_if, Wrong, same_number_at, fault_none, ForSome, bytes_at, noted, read_is, Option, IsSome, IfSome, unwrap_or, ◌&&◌, nat_le, nat_lt, ◌==◌, length, ◌%◌, ◌^◌, ◌++◌, length-append, fold, append-nil, append_assoc, Area, Gate, Closed, Sound, BankContent, Holds, Faulty, gate_at, holds_from, preceded, sound_is, AreRead, parsed_lines, record_bytes, head_fault, None}
-use Rattle.store_format.specs.Bank.{held_number}
+use Rattle.store.proofs.Common.{◌≡◌, ℕ, suc, ◌+◌, ◌*◌, ◌-◌, ◌<◌, ◌≤◌, true, false, List, [], ◌∷◌, take, drop, refl, sym, subst, ◌∙◌, ap, arith, slice_index, nat_tests, drop-drop, take-take, get_or-take, get_or-drop, big_number, big_from-take, PageSize, entry_bytes, RecordLine, lines_from, wrong_line, count_of, lined_gate, gate_if, Wrong, same_number_at, fault_none, ForSome, bytes_at, noted, read_is, Option, IsSome, IfSome, unwrap_or, ◌&&◌, nat_le, nat_lt, ◌==◌, length, ◌%◌, ◌^◌, ◌++◌, length-append, fold, append-nil, append_assoc, Area, Gate, Closed, Sound, BankContent, Holds, Faulty, gate_at, holds_from, preceded, sound_is, AreRead, parsed_lines, record_bytes, head_fault, None, held_number}
 use Rattle.std.proofs.lemmas.List.Sums.{fold-append}
 
 pub is_low : (bound least line : ℕ) → line < least → nat_le least line && nat_lt line bound ≡ false

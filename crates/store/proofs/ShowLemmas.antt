@@ -1,13 +1,7 @@
 -- What a store shows of bytes, and what these stand for.
-use Rattle.store.specs.Below.{AsksSo, Deed}
-use Rattle.store.proofs.Common.{◌≡◌, ℕ, ◌+◌, ◌%◌, ◌^◌, ◌≤◌, List, length, take, sym, ◌∙◌, ap, subst, arith, IsSome, Option, None, fold, line_count, Header, number_at, header_of, total, PageSize, Stands, Damaged, stands, standing_if, standing_by, HasHeader, IsStore, chosen, laid, home_of, stands_is, not_less, FewerLater, held_of, IsChosen, HoldsCommitted, ReopenFault, IsStoreOpenFault, IsStoreReopenFault, StoreView, Fits, with_begun, Shows, IsStoreWith, IsFoundAgain, TracksStore, ShownStands, nat_tests, bank_in, RecordLine, Holds, Faulty, base_of, bank_of, IsSure, HoldsRecords, store_bytes, ⊎_elim, [], ◌∷◌, ◌++◌, refl, unwrap_or, other, emptied, HoldsOneOf}
-use Rattle.store.specs.KeptStore.{store_number}
-use Rattle.store_format.specs.declared.header.Which.{Which}
-use Rattle.outside.specs.declared.world.Outside.{Ghosts}
-use Rattle.store.specs.Kept.{BankView, area_end, end_of, begun_of, bank_number as number_in}
+use Rattle.store.proofs.Common.{◌≡◌, ℕ, ◌+◌, ◌%◌, ◌^◌, ◌≤◌, List, length, take, sym, ◌∙◌, ap, subst, arith, IsSome, Option, None, fold, line_count, Header, number_at, header_of, total, PageSize, Stands, Damaged, stands, standing_if, standing_by, HasHeader, IsStore, chosen, laid, home_of, stands_is, not_less, FewerLater, held_of, IsChosen, HoldsCommitted, ReopenFault, IsStoreOpenFault, IsStoreReopenFault, StoreView, Fits, with_begun, Shows, IsStoreWith, IsFoundAgain, TracksStore, ShownStands, nat_tests, bank_in, RecordLine, Holds, Faulty, base_of, bank_of, IsSure, HoldsRecords, store_bytes, ⊎_elim, [], ◌∷◌, ◌++◌, refl, unwrap_or, other, emptied, HoldsOneOf, AsksSo, Deed, store_number, Which, Ghosts, BankView, area_end, end_of, begun_of, bank_number as number_in, IsBankOpenFault, IsBankReopenFault}
 use Rattle.store.proofs.AppendLemmas.{place_is}
 use Rattle.store.specs.declared.open_fault.OpenFault.{OpenFault}
-use Rattle.store.specs.Opened.{IsBankOpenFault, IsBankReopenFault}
 use Rattle.store.specs.declared.open_fault.ReopenFault.TheVariants as reopening
 use Rattle.store.specs.declared.open_fault.OpenFault.TheVariants as opening
 use Rattle.store.specs.Tracks as journal

@@ -1,9 +1,6 @@
 -- The committed bytes of a store that bytes show.
-use Rattle.store.proofs.Common.{◌≡◌, ℕ, List, length, sym, ◌∙◌, fold, byte_count, byte_count-lines, Stands, stands, laid, home_of, stands_is, StoreView, Shows}
-use Rattle.store.proofs.Newest.{store_agrees}
-use Rattle.store.specs.KeptStore.{store_number}
+use Rattle.store.proofs.Lemmas.{◌≡◌, ℕ, List, length, sym, ◌∙◌, fold, byte_count, byte_count-lines, Stands, stands, laid, home_of, stands_is, StoreView, Shows, store_number, store_agrees, shown_store}
 use Rattle.lines.specs.FlatStore.{FlatStore}
-use Rattle.store.proofs.ShowLemmas.{shown_store}
 
 -- the committed bytes of a store that bytes show
 pub committed_in : (held : List ℕ) (store : StoreView) → Shows held store → List ℕ

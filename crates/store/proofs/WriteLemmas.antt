@@ -1,8 +1,6 @@
 -- Calls that write, one after another, and what a crash leaves of them.
-use Rattle.store.proofs.Common.{◌≡◌, ℕ, ◌+◌, ◌≤◌, List, ◌∷◌, length, ◌∙◌, ap, arith, length-append, ForSome, length-take, length-drop, Ghosts, Failed, Writes, CountsWrite, written, OnlyAsks, FewerLater, held_of, told_some, calls_none, calls_on, still_told, Option, Some, IsSome, IsTrue, Result, Ok, nat_tests, ⊎_elim, [], Elapses, LeavesStep, IsDurable, Leaves, IsSure, OnlyWrites, unwrap_or, IsMoreBy, WritesOnce}
+use Rattle.store.proofs.Common.{◌≡◌, ℕ, ◌+◌, ◌≤◌, List, ◌∷◌, length, ◌∙◌, ap, arith, length-append, ForSome, length-take, length-drop, Ghosts, Failed, Writes, CountsWrite, written, OnlyAsks, FewerLater, held_of, told_some, calls_none, calls_on, still_told, Option, Some, IsSome, IsTrue, Result, Ok, nat_tests, ⊎_elim, [], Elapses, LeavesStep, IsDurable, Leaves, IsSure, OnlyWrites, unwrap_or, IsMoreBy, WritesOnce, CallsOnce, MayTear, AsksSo, Carries, Deed, Wrote}
 use Rattle.outside.specs.Causes.{CountsOwn}
-use Rattle.outside.specs.Moments.{CallsOnce, MayTear}
-use Rattle.store.specs.Below.{AsksSo, Carries, Deed, Wrote}
 
 pub more_on : (a b : ℕ) (old mid new : Option ℕ) → IsMoreBy a old mid → IsMoreBy b mid new → IsMoreBy (a + b) old new
 more_on a b old mid new first second before is = grind (arith, nat_tests, first)

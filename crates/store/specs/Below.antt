@@ -14,7 +14,7 @@ pub use Rattle.outside.specs.Runs.{AsksFor, AsksSo, CallsDisk, held_of, IfTold, 
 pub use Rattle.outside.specs.declared.failed.Failed.{Failed}
 pub use Rattle.outside.specs.declared.world.Outside.{Ghosts}
 pub use Rattle.store_format.specs.Bank.{area_at, BankContent, bank_held, bank_of, Faulty, gate_if, Holds, lines_from, record_bytes, RecordLine, wrong_line}
-pub use Rattle.store_format.specs.Asked.{body_deeds, copy_deeds, gate_deeds, head_bytes, home_deeds, other, selector_of, sure_deeds, turn_deeds}
+pub use Rattle.store_format.specs.Asked.{body_deeds, copy_deeds, gate_deeds, head_bytes, home_deeds, other, selector_of, sure_deeds, turn_deeds, CommitDeeds, DoubtedDeeds, UnwrittenDeeds}
 pub use Rattle.store_format.specs.Body.{body_lines, IsBody}
 pub use Rattle.store_format.specs.Header.{bank_at, entry_bytes, HasRanges, Header, header_of, home_at, number_at, total}
 pub use Rattle.store_format.specs.Read.{AsksUnless}

@@ -1,14 +1,13 @@
 -- Which bytes a checkpoint and a commit write, home lines, and what a checkpoint leaves, and a commit, which makes its own room.
 use Rattle.std.specs.Prelude.{◌≡◌, ◌⊎◌, ℕ, ◌+◌, ◌%◌, ◌^◌, nat_lt, if◌then◌else◌, List, [], ◌<◌, ◌≤◌, length, slice_index, Some, ◌*◌, take, Option, None, Result, Ok, Err, OnOk, IsSome, IsTrue, slice_index_or}
-use Rattle.store.specs.Below.{FailsOnlyCounted, Ghosts, Header, held_of, Leaves, LeavesStep, RecordLine, bank_at, home_at, line_bytes, line_count, Which, B, bytes_at, Torn, written, area_at, Failed, header_of, IsStore, IsSure, stands}
-use Rattle.store.specs.declared.keep.Kept.{Kept}
-use Rattle.store.specs.declared.keep.Kept.TheVariants.{Done, Unwritten, Doubt}
+use Rattle.store.specs.Below.{FailsOnlyCounted, Ghosts, Header, held_of, Leaves, LeavesStep, RecordLine, bank_at, home_at, line_bytes, line_count, Which, B, bytes_at, Torn, written, area_at, Failed, header_of, IsStore, IsSure, stands, Carries, copy_deeds}
 use Rattle.store.specs.Appended.{CountsKept, FailedLeaves}
 use Rattle.store.specs.Held.{IsMoreBy, OnlyWrites}
 use Rattle.store.specs.Kept.{BankView, SameShape, area_end, needed_end, bank_number, begun_of, spoilt, with_record, newest_place, end_of, line_bytes_of}
 use Rattle.store.specs.Tracks.{HoldsOneOf, IsAppended, IsEither, TracksBank, HoldsRecords}
 use Rattle.store.specs.Turned.{bank_turned}
-use Rattle.store.specs.Below.{Carries, copy_deeds}
+use Rattle.store.specs.declared.keep.Kept.{Kept}
+use Rattle.store.specs.declared.keep.Kept.TheVariants.{Done, Unwritten, Doubt}
 use Rattle.store.specs.Exact.{checkpoint_deeds, CommitsDeeds, homes_written}
 use Rattle.store.specs.Chosen.{other}
 

@@ -1,8 +1,6 @@
 -- What keeping a record, a checkpoint and a commit of a bank that is kept ask of the disk: each write with its place and bytes, and each sync, in order.
 use Rattle.std.specs.Prelude.{◌≡◌, ◌⊎◌, ℕ, ◌+◌, ◌%◌, ◌^◌, List, [], ◌∷◌, ◌++◌, length, Option, None, slice_index_or}
-use Rattle.outside.specs.Deeds.{Deed, Did, DidSome, Wrote}
-use Rattle.store_format.specs.Asked.{CommitDeeds, DoubtedDeeds, UnwrittenDeeds}
-use Rattle.store.specs.Below.{B, body_deeds, gate_deeds, Header, home_deeds, IsBody, other, record_bytes, turn_deeds}
+use Rattle.store.specs.Below.{B, body_deeds, gate_deeds, Header, home_deeds, IsBody, other, record_bytes, turn_deeds, Deed, Did, DidSome, Wrote, CommitDeeds, DoubtedDeeds, UnwrittenDeeds}
 use Rattle.store.specs.declared.keep.Kept.{Kept}
 use Rattle.store.specs.declared.keep.Kept.TheVariants.{Done, Unwritten, Doubt}
 use Rattle.store.specs.Kept.{BankView, bank_number, bank_place, begun_of, end_of}

@@ -2,8 +2,8 @@
 use Rattle.std.specs.Prelude.{◌≡◌, IsSome, Result}
 use Rattle.store.specs.Below.{SyncsBy, AsksUnless, bank_of, chosen, Damaged, Faulty, Ghosts, Header, held_of, NotAStore, Rose, stands}
 use Rattle.store.specs.declared.open_fault.OpenFault.{OpenFault}
-use Rattle.store.specs.declared.open_fault.OpenFault.TheVariants as opening
 use Rattle.store.specs.declared.open_fault.ReopenFault.{ReopenFault}
+use Rattle.store.specs.declared.open_fault.OpenFault.TheVariants as opening
 use Rattle.store.specs.declared.open_fault.ReopenFault.TheVariants as reopening
 
 -- bytes that are told have this fault, or the disk's count rose; memory is free

@@ -2,8 +2,8 @@
 use Rattle.std.specs.Prelude.{◌≡◌, ◌↔◌, ◌<◌, ℕ, List, length, slice_get, Some, None, IsSome, Result, IfErr, is_err}
 use Rattle.store.specs.Below.{Stays, AsksUnless, BankContent, bank_held, bank_of, Faulty, Ghosts, Header, held_of, Holds, IfTold, line_count, number_at, PageSize, RecordLine, Rose, Which}
 use Rattle.store.specs.declared.open_fault.OpenFault.{OpenFault}
-use Rattle.store.specs.declared.open_fault.OpenFault.TheVariants as opening
 use Rattle.store.specs.declared.open_fault.ReopenFault.{ReopenFault}
+use Rattle.store.specs.declared.open_fault.OpenFault.TheVariants as opening
 use Rattle.store.specs.declared.open_fault.ReopenFault.TheVariants as reopening
 use Rattle.store.specs.Kept.{BankView, SameShape, bank_place, AreNewest, IsNowhere}
 

@@ -1,8 +1,7 @@
 -- What a read of a gate says.
 use Rattle.std.specs.Prelude.{◌≡◌, ℕ, ◌+◌, ◌*◌, ◌==◌, ◌<◌, ◌≤◌, List, length, drop, fold, slice_index, Option, None, Result}
-use Rattle.store.specs.Below.{Failed, Ghosts, number_at, PageSize, ReadsTold}
+use Rattle.store.specs.Below.{Failed, Ghosts, number_at, PageSize, ReadsTold, RecordLine}
 use Rattle.store_format.specs.Bank as format
-use Rattle.store_format.specs.Bank.{RecordLine}
 use Rattle.store.specs.declared.bank_reading.GateFound.{GateFound}
 use Rattle.store.specs.declared.bank_reading.GateFound.TheVariants.{Closed, Wrong, Sound}
 use Rattle.store.specs.declared.bank_reading.BankFound.{BankFound}

@@ -1,9 +1,8 @@
 -- What a store that is kept says of the bytes on the disk, and what its opening, a commit and a checkpoint do.
-use Rattle.store.specs.Below.{Carries}
+use Rattle.store.specs.Below.{Carries, chosen, Damaged, Failed, FailsOnlyCounted, Ghosts, HasHeader, Header, held_of, IsStore, IsSure, Leaves, NotAStore, one_more, page_bytes, RecordLine, Standing, Stands, stands, total, Which}
 use Rattle.store.specs.Exact.{checkpoint_deeds, CommitsDeeds}
 use Rattle.std.specs.Prelude.{◌≡◌, ℕ, ◌*◌, ◌+◌, ◌≤◌, List, [], take, drop, false, None, IsSome, IsTrue, Result, OnOk}
 use Rattle.lines.specs.FlatStore.{FlatStore}
-use Rattle.store.specs.Below.{chosen, Damaged, Failed, FailsOnlyCounted, Ghosts, HasHeader, Header, held_of, IsStore, IsSure, Leaves, NotAStore, one_more, page_bytes, RecordLine, Standing, Stands, stands, total, Which}
 use Rattle.store.specs.declared.keep.Kept.{Kept}
 use Rattle.store.specs.declared.keep.Kept.TheVariants.{Done}
 use Rattle.store.specs.Appended.{CountsKept, FailedLeaves}

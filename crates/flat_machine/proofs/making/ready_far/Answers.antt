@@ -8,6 +8,6 @@ returns-in_ok-jump_made-in_default c =
     let parts = c.row_with-in_default.ensures.parts in
     record {
       value = λ halfword_at registers status.
-          rw (to, sym parts.4, parts.0) (c.in_ok-jump_made-in_default.ensures row _ registers status _);
+          rw (to, sym parts.4, parts.0) (c.in_ok-jump_made-in_default.ensures.goes row _ registers status _);
       bytes = parts.1;
     }

@@ -7,6 +7,6 @@ returns-in_ok-doing-in-J c =
     let parts = c.row_with.ensures.parts in
     record {
       value = λ halfword_at registers status.
-          rw (c.in-J.is, to, sym parts.4, parts.0) (c.in_ok-doing-in-J.ensures c.row_with.result _ registers status _);
+          rw (c.in-J.is, to, sym parts.4, parts.0) (c.in_ok-doing-in-J.ensures.goes c.row_with.result _ registers status _);
       bytes = parts.1;
     }

@@ -1,7 +1,4 @@
-use Rattle.flat_machine.proofs.Common.{◌+◌, ap, slice_index, sym, ◌∙◌}
-use Rattle.flat_machine.specs.Effect.{worked}
-use Rattle.flat_machine.specs.Plans.{Work}
-use Rattle.flat_machine.specs.Row.{plan_alone}
+use Rattle.flat_machine.proofs.Common.{◌+◌, ap, slice_index, sym, ◌∙◌, worked, Work, plan_alone}
 use Rattle.flat_machine.specs.Work.{base}
 use Rattle.flat_machine.proofs.making.ready_work.Goals as goal
 

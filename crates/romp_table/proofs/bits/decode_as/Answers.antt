@@ -1,5 +1,4 @@
-use Rattle.std.proofs.lemmas.Grind.{common_steps}
-use Rattle.romp_table.proofs.Common.{sym, ap, ◌∙◌, subst, arith, BeginWith, encoded, has_uses, instruction_by}
+use Rattle.romp_table.proofs.Common.{sym, ap, ◌∙◌, subst, arith, BeginWith, encoded, has_uses, instruction_by, common_steps}
 use Rattle.romp_table.proofs.CodeLemmas.{none_used, legal_of, begins_of}
 use Rattle.romp_table.proofs.bits.decode_as.Goals as goal
 

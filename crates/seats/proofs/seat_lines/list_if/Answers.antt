@@ -1,5 +1,4 @@
-use Rattle.seats.proofs.Common.{if◌then◌else◌, Result, Ok, Err, is_ok, IsOk, insert, Ascend, ◌≡◌, ◌<◌, ◌≤◌, ℕ, List, length, sym, ap, subst, arith, get_or, common_steps}
-use Rattle.seats.proofs.ListedLemmas.{ascend-insert, insert-moves}
+use Rattle.seats.proofs.Lemmas.{if◌then◌else◌, Result, Ok, Err, is_ok, IsOk, insert, Ascend, ◌≡◌, ◌<◌, ◌≤◌, ℕ, List, length, sym, ap, subst, arith, get_or, common_steps, ascend-insert, insert-moves}
 use Rattle.seats.proofs.seat_lines.list_if.Goals as goal
 
 at_ok : {T E : Type 0} (result : Result T E) (list inserted left : List ℕ) → IsOk result → list ≡ (if is_ok result then inserted else left) → list ≡ inserted

@@ -1,5 +1,4 @@
-use Rattle.seats.proofs.Common.{◌≡◌, ◌≤◌, ◌+◌, ◌-◌, ◌&&◌, ℕ, Bool, List, nat_lt, length, arith, ap, ◌∙◌, refl, leads, is_on, waits_in, row_places}
-use Rattle.seats.proofs.RowBits.{Leading, leads-more, leads-still}
+use Rattle.seats.proofs.Lemmas.{◌≡◌, ◌≤◌, ◌+◌, ◌-◌, ◌&&◌, ℕ, Bool, List, nat_lt, length, arith, ap, ◌∙◌, refl, leads, is_on, waits_in, row_places, Leading, leads-more, leads-still}
 use Rattle.seats.proofs.wait_cycles.leading_to.Goals as goal
 
 pub loop-step-preserved : goal.loop-step-preserved

@@ -1,5 +1,4 @@
-use Rattle.std.proofs.Common.{arith, sym}
-use Rattle.seats.proofs.RowBits.{least-is}
+use Rattle.seats.proofs.Lemmas.{arith, sym, least-is}
 use Rattle.seats.proofs.wait_cycles.least_on.Goals as goal
 
 -- src/cycle.rt:71:1

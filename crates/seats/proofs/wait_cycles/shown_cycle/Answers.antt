@@ -1,5 +1,4 @@
-use Rattle.seats.proofs.Common.{◌≡◌, ◌+◌, ◌-◌, ◌≤◌, ◌&&◌, ℕ, List, [], ◌∷◌, ◌++◌, Bool, Option, find, length, slice_index_or, bit_and, arith, ap, sym, ◌∙◌, append-nil, append_assoc, if◌then◌else◌, eq-eqb, ne_eqb, leads, next_shown, shown_after, is_on, waits_in, places, row_places}
-use Rattle.seats.proofs.RowBits.{find-within, Leading, next-is, follows-none, follows-some, shown-none, shown-some}
+use Rattle.seats.proofs.Lemmas.{◌≡◌, ◌+◌, ◌-◌, ◌≤◌, ◌&&◌, ℕ, List, [], ◌∷◌, ◌++◌, Bool, Option, find, length, slice_index_or, bit_and, arith, ap, sym, ◌∙◌, append-nil, append_assoc, if◌then◌else◌, eq-eqb, ne_eqb, leads, next_shown, shown_after, is_on, waits_in, places, row_places, find-within, Leading, next-is, follows-none, follows-some, shown-none, shown-some}
 use Rattle.seats.proofs.wait_cycles.shown_cycle.Goals as goal
 
 pub returns-then-not-is_on : goal.returns-then-not-is_on

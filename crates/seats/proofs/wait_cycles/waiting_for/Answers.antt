@@ -1,5 +1,4 @@
-use Rattle.seats.proofs.Common.{◌&&◌, ℕ, Bool, slice_index_or, arith, ap, ◌∙◌, list_any, is_on, waits_in, places, and_le_r}
-use Rattle.seats.proofs.RowBits.{meets-some, meets-none, marked, unmarked}
+use Rattle.seats.proofs.Lemmas.{◌&&◌, ℕ, Bool, slice_index_or, arith, ap, ◌∙◌, list_any, is_on, waits_in, places, and_le_r, meets-some, meets-none, marked, unmarked}
 use Rattle.seats.proofs.wait_cycles.waiting_for.Goals as goal
 use Rattle.seats.proofs.wait_cycles.waiting_for.Goals.{then-row-goals-ne0, else-row-goals-ne0}
 

@@ -1,13 +1,7 @@
-use Rattle.store.proofs.Lemmas.{common_steps, ◌≡◌, ℕ, ◌∷◌, [], List, length, sym, subst, ◌∙◌, ap, arith, IsTrue, Bool, line_count, Which, bank_at, Torn, written, IsSure, Leaves, held_of, leaves_on, leaves_same, asks_one, OnlyWrites, bank_place, end_of, TracksBank, head_bytes, place_is, held_is, writes_on, asks_only, other, selector_of, IsHomeCovered, IsHomed, IsSame, leaves_step, same_held, written_held, synced_sure, IsHeaded, covered_same, headed_same, headed, selected_same, IsThere, moved, end_within, on_ok_weaker}
-use Rattle.store.specs.Kept.{bank_number}
-use Rattle.store.proofs.Common.{Result, Failed}
+use Rattle.store.proofs.Lemmas.{common_steps, ◌≡◌, ℕ, ◌∷◌, [], List, length, sym, subst, ◌∙◌, ap, arith, IsTrue, Bool, line_count, Which, bank_at, Torn, written, IsSure, Leaves, held_of, leaves_on, leaves_same, asks_one, OnlyWrites, bank_place, end_of, TracksBank, head_bytes, place_is, held_is, writes_on, asks_only, other, selector_of, IsHomeCovered, IsHomed, IsSame, leaves_step, same_held, written_held, synced_sure, IsHeaded, covered_same, headed_same, headed, selected_same, IsThere, moved, end_within, on_ok_weaker, Result, Failed, bank_number, carries_on, carries_err, some_more, some_on, whole, cut, AsksSo, SyncsBy, Carries, Synced, Wrote, sure_deeds, homes_written, turn_written}
 use Rattle.store.proofs.checkpoint.move_to.Given.{Over}
 use Rattle.store.proofs.checkpoint.move_to.Goals as goal
 use Rattle.store.proofs.checkpoint.move_to.Goals.{After-write_head, After-sync, After-write_selector}
-use Rattle.outside.proofs.DeedLemmas.{carries_on, carries_err, some_more, some_on}
-use Rattle.store.proofs.DeedLemmas.{whole, cut}
-use Rattle.store.specs.Below.{AsksSo, SyncsBy, Carries, Synced, Wrote, sure_deeds}
-use Rattle.store.specs.Exact.{homes_written, turn_written}
 
 -- where the other bank lies
 place : (g : Over) (c : goal.After-write_head g) (tracks : TracksBank g.W.Outside c.args.bank.now c.args.outside.now) → bank_place c.args.which c.args.bank.now.bank_bytes ≡ bank_at tracks.header (other c.args.bank.now.which)

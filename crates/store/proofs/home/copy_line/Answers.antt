@@ -1,8 +1,5 @@
-use Rattle.store.proofs.Lemmas.{common_steps, ◌≡◌, ℕ, length, List, refl, sym, subst, arith, IsTrue, Bool, Option, IsSome, Torn, LeavesStep, OnlyAsks, asks_one, asks_only, follows_asked, writes_on}
-use Rattle.outside.specs.Bytes.{bytes_at}
-use Rattle.outside.proofs.Common.{held_of, ◌∷◌, []}
+use Rattle.store.proofs.Lemmas.{common_steps, ◌≡◌, ℕ, length, List, refl, sym, subst, arith, IsTrue, Bool, Option, IsSome, Torn, LeavesStep, OnlyAsks, asks_one, asks_only, follows_asked, writes_on, bytes_at, held_of, ◌∷◌, [], Carries, Deed, Wrote}
 use Rattle.store.proofs.home.copy_line.Goals as goal
-use Rattle.store.specs.Below.{Carries, Deed, Wrote}
 
 pub returns : goal.returns
 returns g c =

@@ -1,10 +1,7 @@
-use Rattle.store.proofs.Common.{home_place, get_or_from_slice_get}
-use Rattle.store.proofs.Lemmas.{◌≡◌, ℕ, get_or, refl, sym, subst, ◌∙◌, arith, Option, None, Some, Result, Ok, Failed, line_bytes_of, wrote_nothing}
-use Rattle.store.specs.Committed.{CopiesLine}
+use Rattle.store.proofs.Lemmas.{◌≡◌, ℕ, get_or, refl, sym, subst, ◌∙◌, arith, Option, None, Some, Result, Ok, Failed, line_bytes_of, wrote_nothing, home_place, get_or_from_slice_get, CopiesLine, did_none}
 use Rattle.store.proofs.home.copy_newest.Given.{Over}
 use Rattle.store.proofs.home.copy_newest.Goals as goal
 use Rattle.store.proofs.home.copy_newest.Goals.{In-Some}
-use Rattle.outside.proofs.DeedLemmas.{did_none}
 
 place : (g : Over) (c : goal.In-Some g) → get_or c.args.bank.now.newest c.args.line None ≡ Some c.in-Some.place
 place g c = get_or_from_slice_get c.args.bank.now.newest c.args.line c.newest.result None c.newest.ensures.place ∙ c.in-Some.is

@@ -1,16 +1,7 @@
-use Rattle.store.proofs.Lemmas.{common_steps, ◌≡◌, ℕ, ◌<◌, List, length, refl, sym, subst, ◌∙◌, arith, IsTrue, Bool, line_count, Leaves, held_of, leaves_held, TracksBank, writes_on, wrote_nothing, store_bytes, IsHomeCovered, IsHomed, leaves_step, homed_start, step_covered, step_homed}
-use Rattle.store.proofs.HomeLemmas.{copies_same, homed_gap}
-use Rattle.store.specs.Kept.{line_bytes_of}
-use Rattle.store.specs.Below.{line_bytes}
-use Rattle.store.proofs.Common.{home_place, get_or, None, Result, Failed, ◌+◌, suc, ap}
-use Rattle.lines.specs.declared.line_geometry.PageSize.{PageSize}
+use Rattle.store.proofs.Lemmas.{common_steps, ◌≡◌, ℕ, ◌<◌, List, length, refl, sym, subst, ◌∙◌, arith, IsTrue, Bool, line_count, Leaves, held_of, leaves_held, TracksBank, writes_on, wrote_nothing, store_bytes, IsHomeCovered, IsHomed, leaves_step, homed_start, step_covered, step_homed, copies_same, homed_gap, home_place, get_or, None, Result, Failed, ◌+◌, suc, ap, line_bytes_of, line_bytes, PageSize, carries_on, did_none, some_more, home_gap, home_part, whole, cut, Carries, Deed, Did, DidSome, copy_deeds, homes_written}
 use Rattle.store.proofs.home.write_home.Given.{Over}
 use Rattle.store.proofs.home.write_home.Goals as goal
 use Rattle.store.proofs.home.write_home.Goals.{After-copy_newest}
-use Rattle.outside.proofs.DeedLemmas.{carries_on, did_none, some_more}
-use Rattle.store.proofs.DeedLemmas.{home_gap, home_part, whole, cut}
-use Rattle.store.specs.Below.{Carries, Deed, Did, DidSome, copy_deeds}
-use Rattle.store.specs.Exact.{homes_written}
 
 pub loop-line-init : goal.loop-line-init
 loop-line-init g c =

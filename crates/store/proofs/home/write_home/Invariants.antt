@@ -1,7 +1,5 @@
-use Rattle.store.proofs.Common.{◌≡◌, ◌-◌, ◌≤◌, length, Leaves, held_of, OnlyWrites, TracksBank, IsHomeCovered, IsHomed}
+use Rattle.store.proofs.Common.{◌≡◌, ◌-◌, ◌≤◌, length, Leaves, held_of, OnlyWrites, TracksBank, IsHomeCovered, IsHomed, Did, homes_written}
 use Rattle.store.proofs.home.write_home.Given as goal
-use Rattle.store.specs.Below.{Did}
-use Rattle.store.specs.Exact.{homes_written}
 
 abbrev pub invariant-loop-line : goal.invariant-loop-line
 invariant-loop-line g l = record {

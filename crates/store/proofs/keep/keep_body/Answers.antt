@@ -1,10 +1,7 @@
-use Rattle.store.proofs.Lemmas.{◌≡◌, List, ℕ, ◌+◌, ◌≤◌, ◌∷◌, [], length, sym, subst, ap, ◌∙◌, Torn, written, held_of, Leaves, told_some, leaves_on, IsSafe, IsGateShut, is_open, common_steps, arith, writes_on, safe_behind, safe_at, opened, opened_torn, held_is, IsWritten}
-use Rattle.store.proofs.GateLemmas.{has_body}
+use Rattle.store.proofs.Lemmas.{◌≡◌, List, ℕ, ◌+◌, ◌≤◌, ◌∷◌, [], length, sym, subst, ap, ◌∙◌, Torn, written, held_of, Leaves, told_some, leaves_on, IsSafe, IsGateShut, is_open, common_steps, arith, writes_on, safe_behind, safe_at, opened, opened_torn, held_is, IsWritten, has_body, did_on, sure_deeds}
 use Rattle.store.proofs.keep.keep_body.Given.{Over}
 use Rattle.store.proofs.keep.keep_body.Goals as goal
 use Rattle.store.proofs.keep.keep_body.Goals.{After-write_sure, After-write_sure-2}
-use Rattle.outside.proofs.DeedLemmas.{did_on}
-use Rattle.store.specs.Below.{sure_deeds}
 
 -- as many bytes are held as the gate and the body want
 room : (g : Over) (c : goal.After-write_sure g) → IsGateShut g.W.Outside c.args.gate c.args.outside.now → c.args.gate + 1 + length c.args.body.now ≤ length (held_of g.W.Outside c.args.outside.now)

@@ -1,7 +1,5 @@
-use Rattle.store.proofs.Lemmas.{arith, common_steps, List, ℕ, ◌∷◌, [], length, Torn, held_of, torn_first, asks_one, leaves_same, writes_on, asks_only}
+use Rattle.store.proofs.Lemmas.{arith, common_steps, List, ℕ, ◌∷◌, [], length, Torn, held_of, torn_first, asks_one, leaves_same, writes_on, asks_only, carries_on, some_more, SyncsBy, Synced, Wrote}
 use Rattle.store.proofs.keep.write_sure.Goals as goal
-use Rattle.outside.proofs.DeedLemmas.{carries_on, some_more}
-use Rattle.store.specs.Below.{SyncsBy, Synced, Wrote}
 
 pub returns : goal.returns
 returns g c =

@@ -1,5 +1,4 @@
-use Rattle.store.proofs.Lemmas.{arith, common_steps, sure_on}
-use Rattle.outside.proofs.Runs.{asks_on, opened_once}
+use Rattle.store.proofs.Lemmas.{arith, common_steps, sure_on, asks_on, opened_once}
 use Rattle.store.proofs.opening.start.Goals as goal
 
 pub returns-in-Ok-read_header-clause-sure : goal.returns-in-Ok-read_header-clause-sure

@@ -1,6 +1,4 @@
-use Rattle.store.proofs.Common.{arith, inl, inr, ⊎_elim, ◌∙◌, ◌≡◌, ◌*◌, ◌<◌, ℕ, List, length, Option, None, sym, subst}
-use Rattle.std.specs.Prelude.{slice_index_or}
-use Rattle.store.proofs.PlaceLemmas.{cleared_more, item_other}
+use Rattle.store.proofs.Lemmas.{arith, inl, inr, ⊎_elim, ◌∙◌, ◌≡◌, ◌*◌, ◌<◌, ℕ, List, length, Option, None, sym, subst, slice_index_or, cleared_more, item_other}
 use Rattle.store.proofs.places.clear_page.Goals as goal
 
 pub overflow_mul-first : goal.overflow_mul-first

@@ -1,5 +1,4 @@
-use Rattle.store_format.proofs.Walk.{has_bank, one_held}
-use Rattle.store_format.proofs.Common.{refl}
+use Rattle.store_format.proofs.Lemmas.{has_bank, one_held, refl}
 use Rattle.store_format.proofs.computed_law.what_is_computed_is_held.Goals as goal
 
 pub returns-clause-computed : goal.returns-clause-computed

@@ -1,9 +1,4 @@
-use Rattle.frame_pool.proofs.Common.{List, ◌≡◌, ◌+◌, ◌<◌, ℕ, false, length, refl, sym, ◌∙◌, ap, arith, subst, has, slice_index, slice_set, get_or_read_under, nat_tests, [], ◌∷◌, ◌++◌}
-use Rattle.std.specs.Vec.{with_item}
-use Rattle.frame_pool.specs.Arrivals.{Arrived}
-use Rattle.frame_pool.specs.ArrivalsView.{IsRing, order_of}
-use Rattle.frame_pool.specs.declared.arrivals.Arrivals.TheInside.{Inside}
-use Rattle.frame_pool.proofs.RingLemmas.{last-within, ring-came, counted}
+use Rattle.frame_pool.proofs.Lemmas.{List, ◌≡◌, ◌+◌, ◌<◌, ℕ, false, length, refl, sym, ◌∙◌, ap, arith, subst, has, slice_index, slice_set, get_or_read_under, nat_tests, [], ◌∷◌, ◌++◌, with_item, Arrived, IsRing, order_of, Inside, last-within, ring-came, counted}
 use Rattle.frame_pool.proofs.arrivals.Arrivals.come.Goals.{After-from-2, After-from-5}
 use Rattle.frame_pool.proofs.arrivals.Arrivals.come.Goals as goal
 

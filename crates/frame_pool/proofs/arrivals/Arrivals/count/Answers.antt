@@ -1,5 +1,4 @@
-use Rattle.frame_pool.proofs.Common.{sym, slice_index}
-use Rattle.frame_pool.proofs.ArrivalLemmas.{led-long}
+use Rattle.frame_pool.proofs.Lemmas.{sym, slice_index, led-long}
 use Rattle.frame_pool.proofs.arrivals.Arrivals.count.Goals as goal
 
 pub returns : goal.returns

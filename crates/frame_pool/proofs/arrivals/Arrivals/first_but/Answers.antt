@@ -1,5 +1,4 @@
-use Rattle.frame_pool.proofs.Common.{Bool, false, ◌≡◌, ℕ, true, sym, ◌∙◌, ap, arith, has, slice_index, get_or_read_under, nat_tests, vec_len, Some, not, option_to_list}
-use Rattle.frame_pool.proofs.RingLemmas.{find-none, find-first_led, find-second_led, find-only_led, first-in, page-within}
+use Rattle.frame_pool.proofs.Lemmas.{Bool, false, ◌≡◌, ℕ, true, sym, ◌∙◌, ap, arith, has, slice_index, get_or_read_under, nat_tests, vec_len, Some, not, option_to_list, find-none, find-first_led, find-second_led, find-only_led, first-in, page-within}
 use Rattle.frame_pool.proofs.arrivals.Arrivals.first_but.Goals.{After-is_to_stay}
 use Rattle.frame_pool.proofs.arrivals.Arrivals.first_but.Goals as goal
 

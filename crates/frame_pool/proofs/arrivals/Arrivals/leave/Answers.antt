@@ -1,10 +1,4 @@
-use Rattle.frame_pool.proofs.Common.{List, ◌-◌, ◌≡◌, ℕ, true, refl, sym, ap, arith, subst, has, slice_index, slice_set, get_or_read_under, nat_tests, taken_out, [], ◌∷◌}
-use Rattle.frame_pool.specs.Arrivals.{Arrived}
-use Rattle.frame_pool.specs.ArrivalsView.{IsRing, order_of}
-use Rattle.std.specs.Vec.{with_item}
-use Rattle.frame_pool.specs.declared.arrivals.Arrivals.TheInside.{Inside}
-use Rattle.frame_pool.proofs.SoundLemmas.{taken-fewer}
-use Rattle.frame_pool.proofs.RingLemmas.{next-within, before-within, page-within, ring-left, counted}
+use Rattle.frame_pool.proofs.Lemmas.{List, ◌-◌, ◌≡◌, ℕ, true, refl, sym, ap, arith, subst, has, slice_index, slice_set, get_or_read_under, nat_tests, taken_out, [], ◌∷◌, Arrived, IsRing, order_of, with_item, Inside, taken-fewer, next-within, before-within, page-within, ring-left, counted}
 use Rattle.frame_pool.proofs.arrivals.Arrivals.leave.Goals.{After-from-3, After-from-4}
 use Rattle.frame_pool.proofs.arrivals.Arrivals.leave.Goals as goal
 

@@ -1,6 +1,4 @@
-use Rattle.frame_pool.proofs.Common.{List, ◌≡◌, ℕ, true, sym, ◌∙◌, ap, arith, has, slice_index, get_or_read_under, nat_tests}
-use Rattle.frame_pool.specs.Arrivals.{led}
-use Rattle.frame_pool.specs.ArrivalsView.{order_of}
+use Rattle.frame_pool.proofs.Common.{List, ◌≡◌, ℕ, true, sym, ◌∙◌, ap, arith, has, slice_index, get_or_read_under, nat_tests, led, order_of}
 use Rattle.frame_pool.proofs.arrivals.Arrivals.resident.Goals.{After-index}
 use Rattle.frame_pool.proofs.arrivals.Arrivals.resident.Goals as goal
 

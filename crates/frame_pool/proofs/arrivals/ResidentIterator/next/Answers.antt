@@ -1,6 +1,4 @@
-use Rattle.frame_pool.proofs.Common.{◌≡◌, ◌-◌, ℕ, true, arith, has, slice_index, subst}
-use Rattle.frame_pool.specs.Arrivals.{led}
-use Rattle.frame_pool.proofs.RingLemmas.{first-in, rest-in}
+use Rattle.frame_pool.proofs.Lemmas.{◌≡◌, ◌-◌, ℕ, true, arith, has, slice_index, subst, led, first-in, rest-in}
 use Rattle.frame_pool.proofs.arrivals.ResidentIterator.next.Goals as goal
 
 pub bounds-self-inside-from : goal.bounds-self-inside-from

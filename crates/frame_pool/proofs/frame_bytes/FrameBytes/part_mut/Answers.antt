@@ -1,5 +1,4 @@
-use Rattle.frame_pool.proofs.Common.{◌+◌, refl, ◌∙◌, ap, slice_range, with_part}
-use Rattle.frame_pool.proofs.LendLemmas.{lent-bytes}
+use Rattle.frame_pool.proofs.Lemmas.{◌+◌, refl, ◌∙◌, ap, slice_range, with_part, lent-bytes}
 use Rattle.frame_pool.proofs.frame_bytes.FrameBytes.part_mut.Goals as goal
 
 pub returns : goal.returns

@@ -1,5 +1,4 @@
-use Rattle.frame_pool.proofs.Lemmas.{◌≡◌, ℕ, ◌<◌, [], ◌∷◌, ◌++◌, length, ◌∙◌, ap, arith, Some, slice_set, unwrap_or, pool_places, sound-came_by, popped, some-free, free-within}
-use Rattle.frame_pool.specs.Arrivals.{Arrived}
+use Rattle.frame_pool.proofs.Lemmas.{◌≡◌, ℕ, ◌<◌, [], ◌∷◌, ◌++◌, length, ◌∙◌, ap, arith, Some, slice_set, unwrap_or, pool_places, sound-came_by, popped, some-free, free-within, Arrived}
 use Rattle.frame_pool.proofs.frame_places.FramePlaces.come.Goals as goal
 
 pub index_mut-requires-2 : goal.index_mut-requires-2

@@ -1,5 +1,4 @@
-use Rattle.frame_pool.proofs.Lemmas.{◌≡◌, ℕ, [], ◌∷◌, ◌++◌, sym, ◌∙◌, ap, arith, frame_of_page, pool_places, nat_tests, common_steps, slice_set, None, unwrap_or, sound-left_by, Leaves, leaves, read_frame, pushed}
-use Rattle.frame_pool.specs.Arrivals.{Arrived}
+use Rattle.frame_pool.proofs.Lemmas.{◌≡◌, ℕ, [], ◌∷◌, ◌++◌, sym, ◌∙◌, ap, arith, frame_of_page, pool_places, nat_tests, common_steps, slice_set, None, unwrap_or, sound-left_by, Leaves, leaves, read_frame, pushed, Arrived}
 use Rattle.frame_pool.proofs.frame_places.FramePlaces.leave.Goals as goal
 
 pub index-requires : goal.index-requires

@@ -1,5 +1,4 @@
-use Rattle.frame_pool.proofs.Lemmas.{ap, sound-fresh_by}
-use Rattle.frame_pool.specs.Arrivals.{Arrived}
+use Rattle.frame_pool.proofs.Lemmas.{ap, sound-fresh_by, Arrived}
 use Rattle.frame_pool.proofs.frame_places.FramePlaces.new.Goals as goal
 
 pub invariant_of-result-clause-sound : goal.invariant_of-result-clause-sound

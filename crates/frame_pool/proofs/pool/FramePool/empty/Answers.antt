@@ -1,6 +1,4 @@
-use Rattle.frame_pool.proofs.Lemmas.{ℕ, sym, ◌∙◌, ap, Pool, pool_emptied, gone, emptied_none, emptied_step}
-use Rattle.frame_pool.proofs.Common.{has, not, option_to_list, None}
-use Rattle.frame_pool.proofs.SoundLemmas.{find-in}
+use Rattle.frame_pool.proofs.Lemmas.{ℕ, sym, ◌∙◌, ap, Pool, pool_emptied, gone, emptied_none, emptied_step, has, not, option_to_list, None, find-in}
 use Rattle.frame_pool.proofs.pool.FramePool.empty.Goals as goal
 
 pub leave-requires : goal.leave-requires

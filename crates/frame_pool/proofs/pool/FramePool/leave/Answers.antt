@@ -1,5 +1,4 @@
-use Rattle.frame_pool.proofs.Lemmas.{◌≡◌, ℕ, ◌+◌, ◌*◌, sym, ◌∙◌, ap, arith, subst, slice_range, unwrap_or, Option, Some, page_bytes, place_left, pool_places, frame_at, paging_after, pool_shown, nat_tests, frame-at_resident, frame_within, frame-part, kept-after_by, left-gone, pool-seen, Pool, marks_at}
-use Rattle.frame_pool.proofs.Common.{true, has}
+use Rattle.frame_pool.proofs.Lemmas.{◌≡◌, ℕ, ◌+◌, ◌*◌, sym, ◌∙◌, ap, arith, subst, slice_range, unwrap_or, Option, Some, page_bytes, place_left, pool_places, frame_at, paging_after, pool_shown, nat_tests, frame-at_resident, frame_within, frame-part, kept-after_by, left-gone, pool-seen, Pool, marks_at, true, has}
 use Rattle.frame_pool.proofs.pool.FramePool.leave.Goals.{After-unwrap_or-frame}
 use Rattle.frame_pool.proofs.pool.FramePool.leave.Goals as goal
 

@@ -1,5 +1,4 @@
-use Rattle.outside.proofs.Common.{common_steps, arith}
-use Rattle.outside.proofs.PutCalls.{in_order-more}
+use Rattle.outside.proofs.Lemmas.{common_steps, arith, in_order-more}
 use Rattle.outside.proofs.memory_screen.MemoryScreen.print.Goals as goal
 
 pub invariant_of-self-2 : goal.invariant_of-self-2

@@ -1,7 +1,9 @@
+use Rattle.page_table.proofs.Common.{true, false, arith, nat_tests}
 use Rattle.page_table.specs.KnownLines.{known}
-use Rattle.page_table.proofs.LineLemmas.{line_in-none}
+use Rattle.page_table.proofs.LineLemmas.{none-before}
 use Rattle.page_table.proofs.open_lines.OpenLines.forget.Goals as goal
 
 pub returns : goal.returns
 unfolding known
-returns c block = line_in-none 64 c.args.self.now.tags c.args.self.now.lines block
+returns c true block = none-before _ block c.args.self.now.stores c.args.self.now.spots (λ place. grind (arith, nat_tests, c.args.self.now.stores_past place, c.args.self.now.stores_low place))
+returns c false block = none-before _ block c.args.self.now.loads c.args.self.now.spots (λ place. grind (arith, nat_tests, c.args.self.now.loads_past place, c.args.self.now.loads_low place))

@@ -5,4 +5,4 @@ use Rattle.page_table.proofs.open_lines.OpenLines.keep.Goals as goal
 
 pub returns : goal.returns
 unfolding known
-returns c block = grind (arith, common_steps, nat_tests, get_or-set_same, get_or-set_other)
+returns c store at = grind (arith, common_steps, nat_tests, get_or-set_same, get_or-set_other, c.begin_again.ensures.known store at)

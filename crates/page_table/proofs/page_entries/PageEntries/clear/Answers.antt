@@ -1,8 +1,4 @@
-use Rattle.page_table.proofs.Common.{◌≡◌, ℕ, ◌-◌, ◌+◌, ◌<◌, ◌≤◌, List, length, map, refl, sym, ◌∙◌, ap, arith, subst, slice_index_or, slice_set, get_or_read_under, vec_len, nat_tests, length-set, length-map, cleared_entry}
-use Rattle.std.proofs.lemmas.List.{with_items_is}
-use Rattle.std.specs.Prelude.{slice_index}
-use Rattle.page_table.specs.PageEntries.{owned_by}
-use Rattle.page_table.specs.declared.lockbit_rules.Authority.{Authority}
+use Rattle.page_table.proofs.Common.{◌≡◌, List, length, map, sym, ◌∙◌, ap, arith, slice_set, get_or_read_under, vec_len, length-set, length-map, cleared_entry, with_items_is, slice_index, owned_by, Authority}
 use Rattle.page_table.proofs.EntryLemmas.{clear-none, count-few, count-within, counts-clear_by}
 use Rattle.page_table.proofs.page_entries.PageEntries.clear.Goals.{After-index-count, After-index_mut-2}
 use Rattle.page_table.proofs.page_entries.PageEntries.clear.Goals as goal

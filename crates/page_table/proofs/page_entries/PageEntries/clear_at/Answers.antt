@@ -1,5 +1,4 @@
-use Rattle.page_table.proofs.Common.{◌≡◌, ℕ, ◌<◌, List, length, map, sym, ◌∙◌, ap, arith, subst, slice_index_or, nat_tests, cleared_entry}
-use Rattle.page_table.specs.declared.lockbit_rules.Authority.{Authority}
+use Rattle.page_table.proofs.Common.{◌<◌, List, length, map, sym, ◌∙◌, ap, arith, cleared_entry, Authority}
 use Rattle.page_table.proofs.EntryLemmas.{clear-first}
 use Rattle.page_table.proofs.page_entries.PageEntries.clear_at.Goals as goal
 

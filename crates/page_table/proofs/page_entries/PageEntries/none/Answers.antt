@@ -1,4 +1,4 @@
-use Rattle.page_table.proofs.Common.{◌≡◌, ℕ, length, ◌∙◌, ap, replicate, length-replicate}
+use Rattle.page_table.proofs.Common.{ℕ, length, ◌∙◌, ap, length-replicate}
 use Rattle.page_table.proofs.EntryLemmas.{counts-fresh}
 use Rattle.page_table.proofs.page_entries.PageEntries.none.Goals as goal
 

@@ -1,7 +1,4 @@
-use Rattle.page_table.proofs.Common.{◌≡◌, ℕ, ◌-◌, ◌+◌, ◌<◌, ◌≤◌, List, length, refl, sym, ◌∙◌, ap, arith, subst, slice_index_or, slice_set, get_or_read_under, vec_len, nat_tests, length-set}
-use Rattle.std.specs.Prelude.{slice_index}
-use Rattle.page_table.specs.PageEntries.{owned_by}
-use Rattle.page_table.specs.declared.lockbit_rules.Authority.{Authority}
+use Rattle.page_table.proofs.Common.{◌≡◌, ℕ, ◌-◌, ◌<◌, List, length, sym, ◌∙◌, ap, arith, subst, slice_index_or, slice_set, get_or_read_under, vec_len, length-set, slice_index, owned_by, Authority}
 use Rattle.page_table.proofs.EntryLemmas.{count-few, count-some, count-within, counts-set_by}
 use Rattle.page_table.proofs.page_entries.PageEntries.set.Goals as goal
 

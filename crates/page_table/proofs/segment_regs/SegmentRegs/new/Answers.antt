@@ -1,5 +1,4 @@
-use Rattle.std.proofs.Common.{◌≡◌, ℕ, List, Option, None, ap, arith, drop, get_or, subst}
-use Rattle.page_table.proofs.Common.{register_with}
+use Rattle.page_table.proofs.Common.{register_with, ◌≡◌, ℕ, List, Option, None, ap, arith, drop, get_or, subst}
 use Rattle.std.proofs.lemmas.List.FromFn.{fill_by_all}
 use Rattle.page_table.specs.declared.segment_regs.SegmentRegister.{SegmentRegister}
 use Rattle.page_table.proofs.segment_regs.SegmentRegs.new.Goals as goal

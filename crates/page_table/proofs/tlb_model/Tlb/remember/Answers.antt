@@ -1,5 +1,4 @@
-use Rattle.page_table.proofs.Common.{◌≡◌, ◌<◌, length, List, Some, None, ◌∙◌, ap, arith, Key, key_to, Pair, Ways, after_found, is_pair_of, pairs_in, class_of, pairs_of, nat_tests}
-use Rattle.std.specs.Prelude.{find, slice_index_or, map}
+use Rattle.page_table.proofs.Common.{◌≡◌, ◌<◌, length, List, Some, None, ◌∙◌, ap, arith, Key, key_to, Pair, Ways, after_found, is_pair_of, pairs_in, class_of, pairs_of, nat_tests, find, slice_index_or, map}
 use Rattle.page_table.proofs.BufferLemmas.{after-added, added-apart, class-pairs}
 use Rattle.page_table.proofs.tlb_model.Tlb.remember.Goals as goal
 

@@ -1,5 +1,4 @@
-use Rattle.seats.proofs.Common.{◌∙◌, sym, is_in_conflict}
-use Rattle.seats.proofs.RowBits.{seats-start, seat-on, seat-off}
+use Rattle.seats.proofs.Lemmas.{◌∙◌, sym, is_in_conflict, seats-start, seat-on, seat-off}
 use Rattle.seats.proofs.line_locks.Locks.conflicts.Goals.{then-is_in_conflict, else-is_in_conflict}
 use Rattle.seats.proofs.line_locks.Locks.conflicts.Goals as goal
 

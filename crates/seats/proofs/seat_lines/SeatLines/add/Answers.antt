@@ -1,5 +1,4 @@
-use Rattle.seats.proofs.Common.{if◌then◌else◌, slice_set, IsPermutation, and_parts, not-true, sum_by-set, get_or-le-sum_by, All-set, get_or_default, length-set, nothing, of_page, holds_some, AreLinesCounted, ◌≡◌, ◌<◌, ◌≤◌, ◌&&◌, ℕ, false, not, List, [], ◌∷◌, ◌++◌, length, true, refl, arith, ap, sym, ◌∙◌, subst, common_steps}
-use Rattle.seats.proofs.ListedLemmas.{room, some-more, listed-next, listed-moved}
+use Rattle.seats.proofs.Lemmas.{if◌then◌else◌, slice_set, IsPermutation, and_parts, not-true, sum_by-set, get_or-le-sum_by, All-set, get_or_default, length-set, nothing, of_page, holds_some, AreLinesCounted, ◌≡◌, ◌<◌, ◌≤◌, ◌&&◌, ℕ, false, not, List, [], ◌∷◌, ◌++◌, length, true, refl, arith, ap, sym, ◌∙◌, subst, common_steps, room, some-more, listed-next, listed-moved}
 use Rattle.seats.proofs.seat_lines.SeatLines.add.Goals as goal
 
 below : (c : goal.After-list_if-arg-1) → c.from-page.result < length c.self.inside.pages.items

@@ -1,5 +1,4 @@
-use Rattle.seats.proofs.Common.{eqb-true, nil_from_length, AreListed, common_steps, ◌≡◌, [], List, ℕ, vec_len, sym, ◌∙◌, subst, arith}
-use Rattle.seats.proofs.ListedLemmas.{none-conflicts}
+use Rattle.seats.proofs.Lemmas.{eqb-true, nil_from_length, AreListed, common_steps, ◌≡◌, [], List, ℕ, vec_len, sym, ◌∙◌, subst, arith, none-conflicts}
 use Rattle.seats.proofs.seat_lines.SeatLines.conflicts.Goals as goal
 
 pub returns-then-is_empty : goal.returns-then-is_empty

@@ -1,5 +1,4 @@
-use Rattle.seats.proofs.Common.{cases_Bool, has, nothing, of_page, AreLinesCounted, AreListed, Ascend, ◌≡◌, ℕ, List, length, replicate, get_or, arith, ap, sym, ◌∙◌, subst, inl, inr}
-use Rattle.seats.proofs.ListedLemmas.{none-held, all-none, listed-none, listed-at, none-counted}
+use Rattle.seats.proofs.Lemmas.{cases_Bool, has, nothing, of_page, AreLinesCounted, AreListed, Ascend, ◌≡◌, ℕ, List, length, replicate, get_or, arith, ap, sym, ◌∙◌, subst, inl, inr, none-held, all-none, listed-none, listed-at, none-counted}
 use Rattle.seats.proofs.seat_lines.SeatLines.release.Goals as goal
 
 pub clear-requires : goal.clear-requires

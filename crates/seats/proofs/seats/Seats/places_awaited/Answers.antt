@@ -1,5 +1,4 @@
-use Rattle.seats.proofs.Common.{le-ltb, nat_tests, arith}
-use Rattle.seats.proofs.RowBits.{all-on}
+use Rattle.seats.proofs.Lemmas.{le-ltb, nat_tests, arith, all-on}
 use Rattle.seats.proofs.seats.Seats.places_awaited.Goals as goal
 
 pub returns-in-Some : goal.returns-in-Some

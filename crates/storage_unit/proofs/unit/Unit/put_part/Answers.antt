@@ -1,10 +1,22 @@
-use Rattle.storage_unit.proofs.Lemmas.{fits-part, ℕ, List, length, sym, ◌∙◌, ap, subst, Pool, lines_of_part, put_at, byte_place, keys_of, reach_of, nat_tests, arith, offset_of, ◌-◌, ◌+◌, common_steps, known, after_store, AreUsed, AreOpened, found-below, found-some, none-of, opened-more, unit-sound, part-long, pool-after, marked-keys, stored-part, ready-part, clear-part}
+use Rattle.storage_unit.proofs.Lemmas.{fits-part, ℕ, List, length, sym, ◌∙◌, ap, subst, Pool, lines_of_part, put_at, byte_place, keys_of, reach_of, nat_tests, arith, page_bytes, ◌*◌, ◌+◌, common_steps, AreOpened, found-below, found-some, none-of, opened-more, unit-sound, part-long, pool-after, marked-keys, stored-part, ready-part, clear-part, spot-within}
 use Rattle.storage_unit.proofs.unit.Unit.put_part.Goals as goal
 
 pub part_mut-requires-clause-frame : goal.part_mut-requires-clause-frame
 part_mut-requires-clause-frame c =
     let unit = c.args.self.now in
     found-below (reach_of unit) c.args.first c.in-Some.frame (unit-sound unit) (sym c.frame_at.ensures ∙ c.in-Some.is)
+
+pub drop_rows-requires : goal.drop_rows-requires
+drop_rows-requires c = record {
+  within = λ low.
+      spot-within c.args.self.now c.args.first c.in-Some.frame (length c.args.from.now) (sym c.frame_at.ensures ∙ c.in-Some.is) c.requires.can.some c.requires.can.lies
+      c.spot_of-spot.result (c.spot_of-spot.ensures ∙ ap (λ size. c.in-Some.frame * page_bytes size + c.args.first.byte) c.page.ensures) low;
+}
+
+pub use_bytes-requires-clause-within : goal.use_bytes-requires-clause-within
+use_bytes-requires-clause-within c low =
+    spot-within c.args.self.now c.args.first c.in-Some.frame (length c.args.from.now) (sym c.frame_at.ensures ∙ c.in-Some.is) c.requires.can.some c.requires.can.lies
+    c.spot_of-spot.result (c.spot_of-spot.ensures ∙ ap (λ size. c.in-Some.frame * page_bytes size + c.args.first.byte) c.page.ensures) low
 
 pub copy_from_slice-requires : goal.copy_from_slice-requires
 copy_from_slice-requires c = grind (arith, nat_tests, part-long)
@@ -25,11 +37,11 @@ invariant_of-self c =
       held = unit.held ∙ sym (ap (λ (p : Pool). keys_of unit.directory unit.begun p.frames p.page_in) new ∙ marked-keys unit.directory unit.begun unit.pool frame lines);
       remembered = unit.remembered;
       selected = unit.selected;
-      ready = ready-part unit c.args.first frame c.from.result n is c.from.ensures c.requires.within c.requires.can.some c.requires.can.lies c.copy_from_slice.new.self (ap length c.copy_from_slice.ensures.after) c.drop_rows.new.rows
-          (λ address. c.drop_rows.ensures address ∙ ap (λ s. after_store s c.args.first n address (known unit.rows address)) c.page-page.ensures);
+      ready = ready-part unit c.args.first frame c.from.result n is c.from.ensures c.requires.within c.requires.can.some c.requires.can.lies c.copy_from_slice.new.self (ap length c.copy_from_slice.ensures.after)
+          c.spot_of-spot.result (c.spot_of-spot.ensures ∙ ap (λ size. frame * page_bytes size + c.args.first.byte) c.page.ensures) c.drop_rows.new.rows c.drop_rows.ensures;
       opened = subst (λ (list : List (List ℕ)). AreOpened unit.lines unit.directory unit.table unit.registers list unit.runner) (sym (ap (λ (p : Pool). p.marked) new)) (opened-more unit frame lines);
-      clear = clear-part unit c.args.first frame c.from.result n is c.from.ensures c.requires.within c.requires.can.some c.requires.can.lies c.copy_from_slice.new.self (ap length c.copy_from_slice.ensures.after) c.use_bytes.new.used c.use_bytes.ensures.shared
-          (λ own. subst (λ s. AreUsed unit.used c.use_bytes.new.used (c.args.first.segment - 3840) (offset_of s c.args.first + n)) c.page-page.ensures (c.use_bytes.ensures.private own));
+      clear = clear-part unit c.args.first frame c.from.result n is c.from.ensures c.requires.within c.requires.can.some c.requires.can.lies c.copy_from_slice.new.self (ap length c.copy_from_slice.ensures.after)
+          c.spot_of-spot.result (c.spot_of-spot.ensures ∙ ap (λ size. frame * page_bytes size + c.args.first.byte) c.page.ensures) c.use_bytes.new.used c.use_bytes.ensures.shared c.use_bytes.ensures.private;
     }
 
 pub returns-in-Some : goal.returns-in-Some

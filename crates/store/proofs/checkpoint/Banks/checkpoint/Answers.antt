@@ -1,11 +1,7 @@
-use Rattle.store.proofs.Lemmas.{common_steps, IsCheckpointed, ◌≡◌, ℕ, ◌+◌, List, [], length, refl, sym, subst, ◌∙◌, ap, arith, replicate, length-replicate, get_or-replicate, Which, Header, header_of, area_at, IsStore, Leaves, held_of, leaves_held, BankView, TracksBank, HoldsRecords, bank_turned, place_is, other, IsSame, IsMoved, Option, None, take, held_since}
-use Rattle.store.specs.Kept.{bank_number}
-use Rattle.store.proofs.Common.{Result, Failed}
+use Rattle.store.proofs.Lemmas.{common_steps, IsCheckpointed, ◌≡◌, ℕ, ◌+◌, List, [], length, refl, sym, subst, ◌∙◌, ap, arith, replicate, length-replicate, get_or-replicate, Which, Header, header_of, area_at, IsStore, Leaves, held_of, leaves_held, BankView, TracksBank, HoldsRecords, bank_turned, place_is, other, IsSame, IsMoved, Option, None, take, held_since, Result, Failed, bank_number, Carries, checkpoint_deeds}
 use Rattle.store.proofs.checkpoint.Banks.checkpoint.Given.{Over}
 use Rattle.store.proofs.checkpoint.Banks.checkpoint.Goals as goal
 use Rattle.store.proofs.checkpoint.Banks.checkpoint.Goals.{After-move_to, After-turn_to}
-use Rattle.store.specs.Below.{Carries}
-use Rattle.store.specs.Exact.{checkpoint_deeds}
 
 -- the images since the start
 crash : (g : Over) (c : goal.After-move_to g) (tracks : TracksBank g.W.Outside c.args.self.now c.args.outside.now)

@@ -1,7 +1,5 @@
-use Rattle.store.proofs.Lemmas.{◌≡◌, inl, sym, subst, ◌∙◌, ap, arith, Option, IfSome, held_of, None, Some, BankView, emptied, roomy, Commits, CountsKept, FailedLeaves, bank_appended, kept_in, Kept, appended_apart, carried, leaves_committed, kept_after, roomy_full, roomy_fits, two_more}
-use Rattle.store.proofs.Common.{refl}
+use Rattle.store.proofs.Lemmas.{◌≡◌, inl, sym, subst, ◌∙◌, ap, arith, Option, IfSome, held_of, None, Some, BankView, emptied, roomy, Commits, CountsKept, FailedLeaves, bank_appended, kept_in, Kept, appended_apart, carried, leaves_committed, kept_after, roomy_full, roomy_fits, two_more, refl, KeepsRecord}
 use Rattle.store.proofs.checkpoint.Banks.commit.Goals as goal
-use Rattle.store.specs.Exact.{KeepsRecord}
 
 -- a full bank was left alone, and so was the disk
 pub returns-in-None : goal.returns-in-None

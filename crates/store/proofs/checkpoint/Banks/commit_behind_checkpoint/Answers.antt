@@ -1,9 +1,7 @@
-use Rattle.store.proofs.Lemmas.{◌≡◌, inl, inr, ⊎_elim, ℕ, List, [], sym, subst, ◌∙◌, ap, arith, Option, IfSome, Some, Header, RecordLine, stands, one_more, Leaves, held_of, leaves_on, BankView, begun_of, TracksBank, IsEither, HoldsOneOf, HoldsCommitted, IsSameBut, IsCommitOffset, needed_end, writes_on, other, emptied, CountsKept, FailedLeaves, bank_appended, kept_in, Kept, IsApart, but_on, adds_same, appended_apart, behind_apart, leaves_committed, answered_by, counts_on, either_same, failed_behind, kept_after, shape_on, two_more, nil_from_length}
-use Rattle.store.proofs.Common.{refl}
+use Rattle.store.proofs.Lemmas.{◌≡◌, inl, inr, ⊎_elim, ℕ, List, [], sym, subst, ◌∙◌, ap, arith, Option, IfSome, Some, Header, RecordLine, stands, one_more, Leaves, held_of, leaves_on, BankView, begun_of, TracksBank, IsEither, HoldsOneOf, HoldsCommitted, IsSameBut, IsCommitOffset, needed_end, writes_on, other, emptied, CountsKept, FailedLeaves, bank_appended, kept_in, Kept, IsApart, but_on, adds_same, appended_apart, behind_apart, leaves_committed, answered_by, counts_on, either_same, failed_behind, kept_after, shape_on, two_more, nil_from_length, refl, KeepsRecord}
 use Rattle.store.proofs.checkpoint.Banks.commit_behind_checkpoint.Given.{Over}
 use Rattle.store.proofs.checkpoint.Banks.commit_behind_checkpoint.Goals as goal
 use Rattle.store.proofs.checkpoint.Banks.commit_behind_checkpoint.Goals.{After-checkpoint}
-use Rattle.store.specs.Exact.{KeepsRecord}
 
 -- what stood stands while the checkpoint is made
 stood : (g : Over) (c : goal.After-checkpoint g) → TracksBank g.W.Outside c.args.self.now c.args.outside.now → Leaves g.W.Outside (λ image seen. stands image ≡ stands (held_of g.W.Outside c.args.outside.now)) c.args.outside.now c.checkpoint.new.outside

@@ -1,5 +1,4 @@
-use Rattle.store.proofs.Common.{arith, inl, inr, cases_lt, nat_tests, elements, ◌≡◌}
-use Rattle.store.proofs.PlaceLemmas.{none_of}
+use Rattle.store.proofs.Lemmas.{arith, inl, inr, cases_lt, nat_tests, elements, ◌≡◌, none_of}
 use Rattle.store.proofs.places.Places.first_from.Goals as goal
 
 pub loop-line-preserved : goal.loop-line-preserved

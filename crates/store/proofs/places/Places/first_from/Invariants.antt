@@ -1,5 +1,4 @@
-use Rattle.store.proofs.Common.{◌-◌, ◌≤◌, length}
-use Rattle.store.specs.Places.{HaveNone}
+use Rattle.store.proofs.Common.{◌-◌, ◌≤◌, length, HaveNone}
 use Rattle.store.proofs.places.Places.first_from.Given as goal
 
 abbrev pub invariant-loop-line : goal.invariant-loop-line

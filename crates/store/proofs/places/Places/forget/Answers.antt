@@ -1,6 +1,5 @@
-use Rattle.store.proofs.Common.{arith, ◌∙◌, ◌+◌, ℕ, List, length, ap, sym, subst, Bool, ◌<◌, false, get_or, replicate, Option, None}
+use Rattle.store.proofs.Lemmas.{arith, ◌∙◌, ◌+◌, ℕ, List, length, ap, sym, subst, Bool, ◌<◌, false, get_or, replicate, Option, None, all_none, Cleared, cleared_marked, cleared_unmarked, read_false}
 use Rattle.store.specs.declared.places.Places.TheInside.{Inside}
-use Rattle.store.proofs.PlaceLemmas.{all_none, Cleared, cleared_marked, cleared_unmarked, read_false}
 use Rattle.store.proofs.places.Places.forget.Goals.{then-as_slice-page, else-as_slice-page}
 use Rattle.store.proofs.places.Places.forget.Goals as goal
 

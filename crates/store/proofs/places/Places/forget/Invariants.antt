@@ -1,5 +1,4 @@
-use Rattle.std.specs.Prelude.{length}
-use Rattle.store.proofs.PlaceLemmas.{Cleared}
+use Rattle.store.proofs.Lemmas.{length, Cleared}
 use Rattle.store.proofs.places.Places.forget.Given as goal
 
 abbrev pub invariant-loop-page : goal.invariant-loop-page

@@ -1,13 +1,10 @@
-use Rattle.store.proofs.Lemmas.{nat_tests, ◌≡◌, ℕ, ◌+◌, ◌*◌, ◌%◌, ◌^◌, List, [], ◌∷◌, ◌++◌, length, drop, slice_set, refl, sym, subst, ◌∙◌, ap, arith, rules, length-append, Option, None, Some, IfSome, SameShape, IsAppended, entry_bytes, RecordLine, lines_from, wrong_line, record_bytes, length-take-le, leaves_held, IsStore, stands, one_more, held_of, noted, AreNewest, BankView, end_of, begun_of, spoilt, begun_count, begun_lines, kept_of, TracksBank, IsEither, HoldsOneOf, IsSafe, IsGateShut, needed_end, take, IsReadied, make_ready, shut, either, one_of, same, more, after, doubted, filled_lines, says_room, begun_is, fields_tracked, with_record_is, is_begun, unwrapped, below_in_order, newest_more, held_left, Appends, CountsKept, FailedLeaves, bank_appended, kept_in, Kept}
+use Rattle.store.proofs.Lemmas.{nat_tests, ◌≡◌, ℕ, ◌+◌, ◌*◌, ◌%◌, ◌^◌, List, [], ◌∷◌, ◌++◌, length, drop, slice_set, refl, sym, subst, ◌∙◌, ap, arith, rules, length-append, Option, None, Some, IfSome, SameShape, IsAppended, entry_bytes, RecordLine, lines_from, wrong_line, record_bytes, length-take-le, leaves_held, IsStore, stands, one_more, held_of, noted, AreNewest, BankView, end_of, begun_of, spoilt, begun_count, begun_lines, kept_of, TracksBank, IsEither, HoldsOneOf, IsSafe, IsGateShut, needed_end, take, IsReadied, make_ready, shut, either, one_of, same, more, after, doubted, filled_lines, says_room, begun_is, fields_tracked, with_record_is, is_begun, unwrapped, below_in_order, newest_more, held_left, Appends, CountsKept, FailedLeaves, bank_appended, kept_in, Kept, body_of, length-lines_from, IsBody, IsRecordBody, KeepsRecord, KeepsDeeds}
 use Rattle.store.specs.declared.keep.Appended.{Appended}
-use Rattle.store.proofs.AppendLemmas.{body_of, length-lines_from}
-use Rattle.store_format.specs.Body.{IsBody}
 use Rattle.store.specs.declared.keep.Appended.TheVariants as appending
 use Rattle.store.specs.declared.keep.Kept.TheVariants as keeping
 use Rattle.store.proofs.redo_journal.Bank.append.Given.{Over}
 use Rattle.store.proofs.redo_journal.Bank.append.Goals as goal
 use Rattle.store.proofs.redo_journal.Bank.append.Goals.{After-keep_body, After-note}
-use Rattle.store.specs.Exact.{IsRecordBody, KeepsRecord, KeepsDeeds}
 
 pub unwrap-begun-requires : goal.unwrap-begun-requires
 unwrap-begun-requires g c = is_begun c.self.inside c.args.self.now c.self.view_is c.requires.begun

@@ -1,9 +1,6 @@
-use Rattle.store.proofs.Lemmas.{◌≡◌, [], ap, subst, sym, ◌∙◌, ⊎_elim, arith, Header, header_of, total, Leaves, held_of, other, StoreView, TracksStore, take, OnOk, bank_tracked, store_tracked, total_is, records_intact, common_steps, IsSame, IsCheckpointed, on_ok_weaker}
-use Rattle.store.specs.Kept.{BankView, bank_number}
+use Rattle.store.proofs.Lemmas.{◌≡◌, [], ap, subst, sym, ◌∙◌, ⊎_elim, arith, Header, header_of, total, Leaves, held_of, other, StoreView, TracksStore, take, OnOk, bank_tracked, store_tracked, total_is, records_intact, common_steps, IsSame, IsCheckpointed, on_ok_weaker, BankView, bank_number, Carries, checkpoint_deeds}
 use Rattle.store.specs.Tracks as journal
 use Rattle.store.proofs.restart.Durable.checkpoint.Goals as goal
-use Rattle.store.specs.Below.{Carries}
-use Rattle.store.specs.Exact.{checkpoint_deeds}
 
 pub checkpoint-requires : goal.checkpoint-requires
 checkpoint-requires g c = record {

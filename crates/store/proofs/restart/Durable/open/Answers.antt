@@ -1,5 +1,4 @@
-use Rattle.store.proofs.Lemmas.{common_steps, ◌≡◌, ℕ, List, [], ap, subst, sym, IsSome, ◌∙◌, Option, unwrap_or, held_of, IsChosen, Shows, arith, opening_fault, sure_on, shows_read}
-use Rattle.outside.proofs.Runs.{asks_on, opened_once}
+use Rattle.store.proofs.Lemmas.{common_steps, ◌≡◌, ℕ, List, [], ap, subst, sym, IsSome, ◌∙◌, Option, unwrap_or, held_of, IsChosen, Shows, arith, opening_fault, sure_on, shows_read, asks_on, opened_once}
 use Rattle.store.proofs.restart.Durable.open.Goals as goal
 
 pub returns-in-Err-clause-asks : goal.returns-in-Err-clause-asks

@@ -1,8 +1,6 @@
 use Rattle.store.proofs.Lemmas.{◌≡◌, ℕ, List, [], ap, subst, sym, IsSome, ◌∙◌, arith, Option, unwrap_or, total, HasHeader, held_of, IsChosen, ReopenFault, IsStoreReopenFault, StoreView, Fits, Shows, IsStoreWith, sure_on, shows_read, reopening_fault, intact_fault, total_is, rules, common_steps, IfErr-weaker, on_ok_weaker}
-use Rattle.store.specs.Below.{chosen}
-use Rattle.store.specs.Opened.{IsBankReopenFault}
+use Rattle.store.proofs.Common.{chosen, IsBankReopenFault, opened}
 use Rattle.store.specs.declared.open_fault.ReopenFault.TheVariants as reopening
-use Rattle.outside.proofs.Runs.{opened}
 use Rattle.store.proofs.restart.Durable.reopen.Goals as goal
 
 pub reopen-requires : goal.reopen-requires
