@@ -9,20 +9,22 @@ Python").
 What a transaction read is compared and what it wrote is written by one program of a job, so it is one commit of the
 proved program. Where another came between, `Conflict` is raised at the end of the block and nothing was done;
 `store.update(function)` calls the function again until it commits. `store.once(name, function)` does so once for ever
-under that name, also over kills.
+under that name, also over kills; a name is a text of one's own, or one of `store.ticket()`.
 """
 from __future__ import annotations
 
 import contextlib
+import os
 import socket
 import stat
 import time
-import uuid
 from typing import Any, Callable, Iterator, Mapping, Optional, Protocol, TypeVar, Union
 
 from romp801 import files, program
+from romp801.answers import Key, key_at, ticket_at
+from romp801.cluster.table import AHEAD, Late, Old, Who
 from romp801.errors import WRONG_USE, Failure
-from romp801.ledger import Ledger
+from romp801.ledger import Ledger, asked_as
 from romp801.records import TEXT, Field, Place, Records, Value, mistaken
 from romp801.report import Commit, Ended, Journal, line_of
 from romp801.request import (
@@ -45,6 +47,7 @@ from romp801.wire import Wire
 ATTEMPTS = 1000
 BLOCK = 256
 """Bytes that are read of a served store at once: a line of it, or two."""
+LATE = "too much was done since this was asked: it isn't known whether it was done"
 READ = 65536
 """Bytes that a transaction over a served store may read, at most."""
 Found = TypeVar("Found")
@@ -52,6 +55,10 @@ Found = TypeVar("Found")
 
 class Conflict(Failure):
     """What a transaction read another has changed since: nothing was done."""
+
+
+class TooLate(Failure):
+    """So much was done since a request was asked that it isn't known any more whether it was done."""
 
 
 class Source(Protocol):
@@ -224,6 +231,11 @@ class Store:
         """The store's number: how many commits it has had."""
         raise NotImplementedError
 
+    def ticket(self) -> str:
+        """A name under which something is done once, to be kept before it is asked for: whoever has it may ask
+        again."""
+        raise NotImplementedError
+
     def close(self) -> None:
         """Lets go of what is held."""
 
@@ -337,7 +349,19 @@ class FileStore(Store):
 
     def answered(self, name: str) -> Optional[Ended]:
         """How a request under this name ended, or None."""
-        return self._ledger().answers.get(name)
+        return self._known(_key_of(name))
+
+    def _known(self, key: Key) -> Optional[Ended]:
+        """How a request under a key ended, or None."""
+        found = self._ledger().answers.find(key)
+        if isinstance(found, (Late, Old)):
+            raise TooLate(f"{self.path}: {LATE}")
+        return found
+
+    def ticket(self) -> str:
+        """A name under which something is done once, to be kept before it is asked for: whoever has it may ask
+        again."""
+        return ticket_at(self._ledger().answers.count)
 
     def _run(self, asked: list[Asked], rounds: int, take: Take) -> None:
         """Runs a job of which nothing is kept."""
@@ -357,15 +381,21 @@ class FileStore(Store):
         segments = Snapshot(files.sound_store(self.path).content()).segments
         for request in requests:
             self.front.check(request, segments)
-        ledger = self._ledger() if name is not None else None
-        asked = [Asked(f"{name or ''}.{place}", request) for place, request in enumerate(requests)]
-        ends = {it.name: ledger.answers[it.name] for it in asked if ledger and it.name in ledger.answers}
+        if name is None:
+            asked, ends = [Asked(f"{place}", request) for place, request in enumerate(requests)], dict[str, Ended]()
+            run = self._run
+        else:
+            asked = [asked_as(key_at(name, place), request) for place, request in enumerate(requests)]
+            ends = {it.name: end for it in asked for end in [self._known(it.more)] if end is not None}
+            for it in asked:
+                self._ledger().answers.check(it.more)
+            run = self._ledger().run
         queue = Queue(self.front)
         for it in asked:
             if it.name not in ends:
                 queue.put(it)
         while queue.waiting:
-            queue.work(ledger.run if ledger else self._run, lambda one, end: ends.update({one.name: end}))
+            queue.work(run, lambda one, end: ends.update({one.name: end}))
         return [ends[it.name] for it in asked]
 
     def close(self) -> None:
@@ -431,9 +461,13 @@ class ServedStore(Store):
     def __init__(self, path: str, seconds: float = 60.0) -> None:
         self.path, self.seconds = path, seconds
         self.wire: Optional[Wire] = None
-        self.session = uuid.uuid4().hex
-        self.asked = 0
-        self._segments = {int(it): size for it, size in self._one({"stat": True})["segments"].items()}
+        self._begin_session()
+
+    def _begin_session(self) -> None:
+        """Begins a session: a name that nobody had before."""
+        found = self._one({"stat": True})
+        self._segments = {int(it): size for it, size in found["segments"].items()}
+        self.session, self.asked, self.since = os.urandom(8).hex(), 0, int(found["count"])
 
     @property
     def segments(self) -> Mapping[int, int]:
@@ -458,64 +492,119 @@ class ServedStore(Store):
 
     def answered(self, name: str) -> Optional[Ended]:
         """How a request under this name ended, or None."""
-        return end_told(self._one({"answered": name})["end"])
+        return end_told(self._one({"answered": _key_of(name)})["end"])
+
+    def ticket(self) -> str:
+        """A name under which something is done once, to be kept before it is asked for: whoever has it may ask
+        again."""
+        return ticket_at(int(self._one({"stat": True})["count"]))
 
     def ask(self, requests: list[Request], name: Optional[str] = None) -> list[Ended]:
         """Runs requests to their ends. Under a name each is answered once for ever."""
-        if name is None:
-            self.asked += 1
-            name = f"{self.session}.{self.asked}"
-        messages: list[dict[str, Any]] = []
-        for place, it in enumerate(requests):
-            messages.append({"name": f"{name}.{place}", **message_of(it)})
-        return [end for end in (end_told(it["end"]) for it in self._exchange(messages)) if end is not None]
+        answers: list[dict[str, Any]] = []
+        for at in range(0, len(requests), AHEAD):
+            part = [message_of(it) for it in requests[at : at + AHEAD]]
+            if name is None:
+                answers += self._in_session(part)
+            else:
+                answers += self._exchange([{"name": key_at(name, at + place), **it} for place, it in enumerate(part)])
+        ends = (end_told(self._sure(it)["end"]) for it in answers)
+        return [it for it in ends if it is not None]
+
+    def _in_session(self, messages: list[dict[str, Any]]) -> list[dict[str, Any]]:
+        """The answers of requests of this session. Where it was forgotten those that weren't done are asked in
+        another."""
+        answers: list[dict[str, Any]] = [{"late": False}] * len(messages)
+        left = [*range(len(messages))]
+        try:
+            while left:
+                found = self._exchange([{"name": key, **messages[it]} for key, it in zip(self._keys(len(left)), left)])
+                for place, answer in zip(left, found):
+                    answers[place] = answer
+                left = [it for it in left if answers[it].get("late") is False]
+                self.session = self.session if not left else ""
+        except BaseException:
+            # (what this session asked may have no answer, so its count can't go on)
+            self.session = ""
+            raise
+        return answers
+
+    def _keys(self, count: int) -> list[Key]:
+        """The keys of so many requests of this session."""
+        if not self.session:
+            self._begin_session()
+        first, self.asked = self.asked, self.asked + count
+        return [Who(self.since, self.session, first, place) for place in range(first, self.asked)]
 
     def _one(self, message: dict[str, Any]) -> dict[str, Any]:
         """The answer of a message."""
-        return self._exchange([message])[0]
+        return self._sure(self._exchange([message])[0])
+
+    def _sure(self, answer: dict[str, Any]) -> dict[str, Any]:
+        """An answer; raises TooLate where it tells none."""
+        if "late" in answer:
+            raise TooLate(f"{self.path}: {LATE}")
+        return answer
 
     def _exchange(self, messages: list[dict[str, Any]]) -> list[dict[str, Any]]:
-        """The answers of messages, in their order. What isn't answered is sent again over a new connection."""
+        """The answers of messages, in their order. What isn't answered is sent again over a new connection. Of one that
+        comes too late `late` says whether it was sent before, and so may have been done."""
         answers: dict[int, dict[str, Any]] = {}
+        unsure: set[int] = set()
         until = time.monotonic() + self.seconds
         while len(answers) < len(messages):
-            had = len(answers)
-            try:
-                self._send({place: it for place, it in enumerate(messages) if place not in answers}, answers)
-                why = "it can't tell yet"
-            except OSError as error:
-                self.close()
-                why = error.strerror or str(error)
-            if len(answers) > had:
-                until = time.monotonic() + self.seconds
-            if len(answers) < len(messages):
-                if time.monotonic() > until:
-                    raise Failure(f"nobody answers at {self.path}: {why}")
+            left = [place for place in range(len(messages)) if place not in answers]
+            why = self._send({place: messages[place] for place in left}, answers)
+            for place in left:
+                if "late" in answers.get(place, ()):
+                    answers[place] = {"late": place in unsure}
+            now, late = time.monotonic(), [place for place in left if place not in answers]
+            if len(late) < len(left):
+                until = now + self.seconds
+            elif now > until:
+                raise Failure(f"nobody answers at {self.path}: {why}")
+            if late:
+                unsure.update(late)
                 time.sleep(0.05)
-        for place, it in enumerate(messages):
+        for place in range(len(messages)):
             if "error" in answers[place]:
                 raise Failure(str(answers[place]["error"]), WRONG_USE)
         return [answers[place] for place in range(len(messages))]
 
-    def _send(self, messages: dict[int, dict[str, Any]], answers: dict[int, dict[str, Any]]) -> None:
-        """Sends messages and takes their answers."""
-        if self.wire is None:
-            link = socket.socket(socket.AF_UNIX, socket.SOCK_STREAM)
-            try:
-                link.connect(self.path)
-            except OSError:
-                link.close()
-                raise
-            self.wire = Wire(link, self.seconds)
-        for tag, answer in self.wire.ask(messages):
-            if "again" not in answer:
-                answers[tag] = answer
+    def _send(self, messages: dict[int, dict[str, Any]], answers: dict[int, dict[str, Any]]) -> str:
+        """Sends messages and takes their answers; answers why some have none."""
+        try:
+            if self.wire is None:
+                self.wire = Wire(self._link(), self.seconds)
+            for tag, answer in self.wire.ask(messages):
+                if "again" not in answer:
+                    answers[tag] = answer
+            return "it can't tell yet"
+        except OSError as error:
+            self.close()
+            return error.strerror or str(error)
+
+    def _link(self) -> socket.socket:
+        """A connection; raises OSError."""
+        link = socket.socket(socket.AF_UNIX, socket.SOCK_STREAM)
+        try:
+            link.connect(self.path)
+        except OSError:
+            link.close()
+            raise
+        return link
 
     def close(self) -> None:
         """Ends the connection."""
         if self.wire is not None:
             self.wire.close()
             self.wire = None
+
+
+def _key_of(name: str) -> Key:
+    """The key of a request by the text NAME.PLACE."""
+    first, _, place = name.rpartition(".")
+    return key_at(first, int(place)) if place.isdigit() else name
 
 
 def end_told(line: Optional[str]) -> Optional[Ended]:

@@ -12,7 +12,7 @@ import os
 import stat
 import struct
 import time
-from typing import BinaryIO, Iterator, Optional, Union
+from typing import BinaryIO, Iterator, Optional, Tuple, Union
 
 from romp801.errors import Failure, named
 from romp801.format import STORE_BYTES, Fault, Store
@@ -24,6 +24,8 @@ KINDS = {
     stat.S_IFBLK: "a device",
     stat.S_IFSOCK: "a socket",
 }
+Mark = Tuple[int, int, int, int, int]
+"""A file's device, number, length and moments."""
 LINKS = 40  # from one to the next, as the system follows them
 BESIDE = ".romp801-new"
 """What the name of a file ends with that isn't whole yet; it begins with a dot and the name of the file that it is to
@@ -111,13 +113,27 @@ def forget(file: int) -> None:
         os.posix_fadvise(file, 0, 0, os.POSIX_FADV_DONTNEED)
 
 
-def forget_store(path: str) -> None:
-    """Has memory forget the clean pages of a store, under its lock where nobody has it. What can't be opened is left
-    to who opens it."""
+def forget_store(path: str) -> bool:
+    """Has memory forget the clean pages of a store, under its lock; False where another process runs it, since what
+    that writes may fail yet. What can't be opened is left to who opens it."""
     with contextlib.suppress(Failure, OSError), open_store(path) as file:
-        with contextlib.suppress(OSError):
+        try:
             fcntl.flock(file, fcntl.LOCK_SH | fcntl.LOCK_NB)
+        except BlockingIOError:
+            return False
+        except OSError:  # (a file system without locks)
+            pass
         forget(file.fileno())
+    return True
+
+
+def mark_of(path: str) -> Optional[Mark]:
+    """What tells a store's file from one that somebody wrote later; None where another process runs it."""
+    with contextlib.suppress(Failure, OSError), open_store(path) as file:
+        fcntl.flock(file, fcntl.LOCK_SH | fcntl.LOCK_NB)
+        found = os.fstat(file.fileno())
+        return found.st_dev, found.st_ino, found.st_size, found.st_mtime_ns, found.st_ctime_ns
+    return None
 
 
 def read_all(file: BinaryIO, path: str) -> bytes:
@@ -371,8 +387,11 @@ def in_memory(data: bytes) -> Iterator[int]:
     except OSError as error:
         raise named(error, "a file in memory") from error
     try:
-        write_all(file, data)
-        os.lseek(file, 0, os.SEEK_SET)
+        try:
+            write_all(file, data)
+            os.lseek(file, 0, os.SEEK_SET)
+        except OSError as error:
+            raise named(error, "a file in memory") from error
         yield file
     finally:
         os.close(file)

@@ -5,13 +5,16 @@ What is read is written again as it was: no number has a zero in front, and betw
 """
 from __future__ import annotations
 
+import functools
 import re
-from typing import Any, Callable, ClassVar, NamedTuple, Type
+from typing import Any, Callable, ClassVar, NamedTuple, Optional, Type
 
 FIELD = re.compile(r"\{(\w+)(?::(\w+))?\}")
 NAME = r"[A-Za-z_][A-Za-z0-9_]{0,30}"
 """A program's name."""
 NUMBER = r"(?:0|[1-9][0-9]*)"
+TEXT = "_text"
+"""Where a line that was read has its text."""
 PRINTED = 4096
 """The bytes that an activation may print, at most."""
 
@@ -79,6 +82,13 @@ KINDS = {
 """The kinds of fields. Those without a kind are numbers below 2^32; `long` is below 2^64."""
 
 
+@functools.lru_cache(maxsize=None)
+def _parts(form: str) -> tuple[str, list[tuple[str, Callable[[Any], str], str]]]:
+    """What stands in front of a form's fields, and of each its name, how it is written, and what stands behind it."""
+    front, *rest = FIELD.split(form)
+    return front, [(rest[at], KINDS[rest[at + 1] or ""].write, rest[at + 2]) for at in range(0, len(rest), 3)]
+
+
 class Line:
     """A line: its class has the form, and its fields are those of the form."""
 
@@ -86,7 +96,12 @@ class Line:
 
     def __str__(self) -> str:
         """The line's text, without its line feed."""
-        return FIELD.sub(lambda field: KINDS[field[2] or ""].write(getattr(self, field[1])), self.form)
+        # (one that was read is written as it was)
+        found: Optional[str] = self.__dict__.get(TEXT)
+        if found is None:
+            front, fields = _parts(self.form)
+            found = front + "".join([write(getattr(self, name)) + behind for name, write, behind in fields])
+        return found
 
 
 class _Form:
@@ -108,7 +123,9 @@ class _Form:
         found = self.pattern.fullmatch(text)
         if not found:
             raise ValueError(text)
-        return self.line(**{name: read(part) for (name, read), part in zip(self.fields, found.groups())})
+        line = self.line(**{name: read(part) for (name, read), part in zip(self.fields, found.groups())})
+        line.__dict__[TEXT] = text
+        return line
 
 
 class Forms:

@@ -5,6 +5,7 @@ each commit whose line is at hand the journal still has the record.
 """
 from __future__ import annotations
 
+import contextlib
 import fcntl
 import os
 import select
@@ -40,8 +41,10 @@ def changes(romp801: Program, job: bytes, opening: bytes, found: Report) -> dict
     """The lines that each commit of a report changed, by the number that the store had behind it: each by its number in
     the store, with all its bytes then. Raises Failure where the job has another report on a store of these bytes."""
     behind: dict[int, dict[int, bytes]] = {}
-    with files.copy_of(opening) as (store, keeps):
+    with contextlib.ExitStack() as held:
+        store, keeps = held.enter_context(files.copy_of(opening))
         kept = _Noted(store)
+        held.callback(kept.close)
         # (one place, which one write fills)
         out, into = os.pipe2(os.O_DIRECT)
         try:

@@ -1,4 +1,4 @@
-"""A ledger: what was asked of a store, each request under a name, and what came of it, once and for ever.
+"""A ledger: what was asked of a store, and what came of it, each request once (romp801.answers).
 
 It is a folder with a log (romp801.log) and a copy of the store. A job is noted, with the names of its requests, and
 synced before it is run; how they ended is noted with the next job. So a kill at any moment leaves one of two states. Is
@@ -9,16 +9,19 @@ heard, and a request that is asked again under its name is answered and not run 
 
 The records of the log are, each as often as it comes:
 
-    {"ledger": 1}
-        the first
+    {"ledger": 2, "count": C, "names": [[NAME, LINE], ..], "horizon": H, "sessions": [..]}
+        the first: what is answered
     {"front": TEXT}
         the programs that jobs begin with, from here on
     {"opening": K, "sum": SUM, "number": N}
         the file `opening.K` has the store at N, before the next job
-    {"job": TEXT, "names": [..], "apply": [..], "number": N}
-        a job about to be run: what comes after the front, its requests, and which of them compare
-    {"over": [[NAME, LINE], ..], "number": N, "ran": B}
-        the job is over: how requests ended, the store's number, and whether it was run at all
+    {"job": TEXT, "keys": [..], "apply": [..], "number": N}
+        a job about to be run: what comes after the front, the keys of its requests, and which of them compare
+    {"over": [[PLACE, LINE], ..], "number": N, "ran": B}
+        the job is over: how its requests ended, the store's number, and whether it was run at all
+
+A log that has become long is written anew with a copy: what was answered is its first record then, and the jobs before
+the copy are in no need any more. Until the new one has the old one's name the old one stands, with its own copy.
 """
 from __future__ import annotations
 
@@ -26,43 +29,62 @@ import os
 from typing import Any, Iterable, Optional
 
 from romp801 import files, prints, program
+from romp801.answers import Answers, Key, ended, text_of
+from romp801.cluster.table import Who
 from romp801.errors import WRONG_USE, Failure, named
 from romp801.forms import Line
 from romp801.log import Log
+from romp801.program import Ahead
 from romp801.progress import sum_of
 from romp801.report import Ended, Finish, Report, line_of
-from romp801.request import Apply, Asked, Front, Take, is_conflict, is_final, run_job
+from romp801.request import Apply, Asked, Front, Request, Take, is_conflict, is_final, run_job
 
 COPY_AFTER = 128
-"""Jobs between two copies of the store."""
-ANSWERS = 100000
-"""Names that are remembered: the last ones."""
-LONGEST = 64 << 20
-"""Bytes of a log, from which on it is written anew with a copy."""
+"""Jobs between two copies of the store, at most."""
+GROWTH = 4 << 20
+"""Bytes of jobs behind a copy, or of a log beside twice what its beginning has: from there on a copy is due, or the log
+is written anew with one."""
 OPENING = "opening."
 
 
-class Ledger(Log):
-    """The ledger of a store. `number` is the store's when the last job was over, `answers` has how each name ended."""
+def asked_as(key: Key, request: Request) -> Asked:
+    """A request under its key."""
+    return Asked(text_of(key), request, key)
 
-    what = "ledger"
+
+class Ledger(Log):
+    """The ledger of a store. `number` is the store's when the last job was over, and `answers` has how each request
+    ended."""
+
+    what, ahead = "ledger", 1 << 18
 
     def __init__(self, store: str, folder: str, romp801: program.Program, front: Front) -> None:
         super().__init__(os.path.join(folder, "log"))
         self.store, self.folder, self.program, self.front = store, folder, romp801, front
         self.seconds: Optional[float] = 10.0
-        self.copy_after = COPY_AFTER
+        self.copy_after, self.growth = COPY_AFTER, GROWTH
         self.keep: Optional[str] = None
-        self.answers: dict[str, Ended] = {}
+        self.ahead_of: Optional[Ahead] = None
+        self._clear()
+
+    def _clear(self) -> None:
+        """Nothing is known."""
+        self.answers = Answers()
         self.kept_front = ""
         self.copies, self.sum, self.number = 0, "", 0
+        self.begun = self.copied = 0  # the bytes of the log when it was begun, and at the last copy
+        self.was_cut = False  # whether a job behind the copy was cut off: run again it would go on
         self.jobs: list[str] = []
         self.job: Optional[dict[str, Any]] = None
         self.pending: list[dict[str, Any]] = []
 
     def apply(self, record: dict[str, Any]) -> None:
         """Does what a record says."""
-        if "front" in record:
+        if "ledger" in record:
+            if record["ledger"] != 2:
+                raise Failure(f"{self.path} is of another version of this package: begin another folder")
+            self.answers = Answers.of(record)
+        elif "front" in record:
             self.kept_front = record["front"]
         elif "opening" in record:
             self.copies, self.sum, self.number = record["opening"], record["sum"], record["number"]
@@ -71,39 +93,48 @@ class Ledger(Log):
             self.job = record
             self.jobs.append(self.kept_front + record["job"])
         elif "over" in record:
-            self.job, self.number = None, record["number"]
+            self.number = record["number"]
             if not record["ran"]:
                 self.jobs.pop()
-            for name, line in record["over"]:
-                found = line_of(line)
-                assert isinstance(found, Ended)
-                self._answer(name, found)
+            self._note_ends((place, ended(line)) for place, line in record["over"])
+            self.job = None
 
-    def _answer(self, name: str, end: Ended) -> None:
-        """A name has ended."""
-        self.answers.pop(name, None)
-        self.answers[name] = end
-        if len(self.answers) > ANSWERS:
-            del self.answers[next(iter(self.answers))]
+    def _note_ends(self, ends: Iterable[tuple[int, Ended]]) -> None:
+        """Requests of the last job ended, by their places in it."""
+        assert self.job is not None
+        for place, end in ends:
+            key = self.job["keys"][place]
+            self.answers.take(key if isinstance(key, str) else Who(*key), end)
 
     def open(self) -> str:
         """Takes the folder, and settles what an earlier process left; answers what that was, in words."""
         self.held = files.hold_folder(self.folder)
         try:
-            said = ""
-            if self.read_log():
-                said = self._settle()
-            else:
-                self.begin_log({"ledger": 1})
-            self.copy()
-            return said
+            return self._load()
         except BaseException:
             self.close()
             raise
 
+    def _load(self) -> str:
+        """Reads what the folder has, and settles it."""
+        said = ""
+        self._clear()
+        if self.read_log():
+            said = self._settle()
+        else:
+            self.begin_log({"ledger": 2, **self.answers.raw()})
+        self.copy()
+        return said
+
     def close(self) -> None:
         """Lets go of the folder."""
+        if self.ahead_of is not None:
+            self.ahead_of.end()
         os.close(self.held)
+
+    def has_store(self) -> None:
+        """Nobody else runs the store: the program is begun before its job is there."""
+        self.ahead_of = Ahead(self.program, "run", self.store)
 
     def _opening(self, copies: int) -> str:
         """The file of a copy."""
@@ -116,7 +147,8 @@ class Ledger(Log):
             if number == self.number:
                 return ""
             return f"{self.store} is at {number}, and the last request here left it at {self.number}: others ran it"
-        text, names = self.jobs[-1].encode("latin-1"), self.job["names"]
+        self.was_cut = True
+        text = self.jobs[-1].encode("latin-1")
         opening = self._before()
         told, reached = self.program.replay(text, opening, number, to_next=True)
         if reached is None and number == self.job["number"]:
@@ -132,7 +164,7 @@ class Ledger(Log):
         compares = set(self.job["apply"])
         ends = [it for it in Report.read(told).lines if isinstance(it, Ended) and is_final(it)]
         ends = [it for it in ends if it.activation - 1 not in compares or not is_conflict(it)]
-        self._over([(names[it.activation - 1], it) for it in ends], number)
+        self._over([(it.activation - 1, it) for it in ends], number)
         return f"settled: the store is at {number}; {verdict}"
 
     def _before(self) -> bytes:
@@ -159,7 +191,8 @@ class Ledger(Log):
         return verdict
 
     def copy(self) -> None:
-        """Puts a copy of the store into the folder, from which the next jobs are counted."""
+        """Puts a copy of the store into the folder, from which the next jobs are counted, and begins the log anew where
+        it is long."""
         with files.locked(self.store, self.seconds) as file:
             image = files.read_all(file, self.store)
         number = files.sound(image, self.store).number
@@ -167,17 +200,18 @@ class Ledger(Log):
         files.write_whole(self._opening(before + 1), image)
         opening = {"opening": before + 1, "sum": sum_of(image), "number": number}
         front = {"front": self.front.text}
-        if self.length >= LONGEST:
-            self.begin_log({"ledger": 1}, self._record(self.answers.items(), number), front, opening)
+        if self.length > 2 * self.begun + self.growth:
+            self.begin_log({"ledger": 2, **self.answers.raw()}, front, opening)
+            self.begun = self.length
         else:
             if self.kept_front != self.front.text:
                 self.add(front)
             self.add(opening, *self.pending)
-        self.pending = []
+        self.pending, self.copied, self.was_cut = [], self.length, False
         self.image = image
-        self._clear()
+        self._remove_others()
 
-    def _clear(self) -> None:
+    def _remove_others(self) -> None:
         """Removes copies that the log doesn't name."""
         try:
             for name in os.listdir(self.folder):
@@ -190,12 +224,15 @@ class Ledger(Log):
         """Runs the job of these requests, and hands each end over as its line is put; one whose name was answered
         isn't run. Raises Failure where what came of them isn't known, or where the job can't be noted: then nothing of
         it was run."""
-        if self.job is not None:
+        if not self.length:
+            self._load()
+        elif self.job is not None:
             self._settle()
         left = []
         for place, it in enumerate(asked):
-            if it.name in self.answers:
-                take(place, self.answers[it.name])
+            found = self.answers.find(it.more)
+            if isinstance(found, Ended):
+                take(place, found)
             else:
                 left.append(place)
         if left:
@@ -203,29 +240,32 @@ class Ledger(Log):
 
     def _run(self, asked: list[Asked], rounds: int, take: Take) -> None:
         """Runs the job of requests whose names weren't answered."""
-        if self.keep is not None or len(self.jobs) >= self.copy_after:
+        is_far = self.length - self.copied > self.growth or len(self.jobs) >= self.copy_after
+        if self.keep is not None or is_far or self.was_cut:
             self.copy()
         text = self.front.job([it.request for it in asked], rounds)
-        number, ended = self.number, [False] * len(asked)
+        number, done = self.number, [False] * len(asked)
         rest = text.decode("latin-1")[len(self.front.text) :]
         compares = [place for place, it in enumerate(asked) if isinstance(it.request, Apply)]
-        names = [it.name for it in asked]
-        self.add({"job": rest, "names": names, "apply": compares, "number": number}, *self.pending)
+        keys = [it.more for it in asked]
+        self.add({"job": rest, "keys": keys, "apply": compares, "number": number}, *self.pending)
         self.pending = []
-        ends: list[tuple[str, Ended]] = []
+        ends: list[tuple[int, Ended]] = []
 
         def hand(end: Ended) -> None:
             """One that ended is told once."""
             place = end.activation - 1
-            if is_final(end) and not ended[place]:
-                ended[place] = True
+            if is_final(end) and not done[place]:
+                done[place] = True
                 if place not in compares or not is_conflict(end):
                     # (it is known from here on: should its job be settled, it ended so)
-                    self._answer(asked[place].name, end)
-                    ends.append((asked[place].name, end))
+                    self.answers.take(asked[place].more, end)
+                    ends.append((place, end))
                 take(place, end)
 
-        told = run_job(self.program, self.store, text, hand, self.seconds)
+        told = run_job(self.ahead_of or self.program, self.store, text, hand, self.seconds)
+        if self.ahead_of is not None:
+            self.ahead_of.done(told.status == 0)
         if told.status == 0:
             last = line_of(told.report.decode().splitlines()[-1])
             assert isinstance(last, Finish)
@@ -238,22 +278,18 @@ class Ledger(Log):
             raise Failure(f"the job was refused: {told.errors.decode(errors='replace').strip()}", WRONG_USE)
         self._settle()
         for place, it in enumerate(asked):
-            if not ended[place] and it.name in self.answers:
-                take(place, self.answers[it.name])
+            found = self.answers.find(it.more)
+            if not done[place] and isinstance(found, Ended):
+                take(place, found)
 
-    @staticmethod
-    def _record(ends: Iterable[tuple[str, Ended]], number: int, ran: bool = True) -> dict[str, Any]:
-        """The record of a job that is over."""
-        return {"over": [[name, str(end)] for name, end in ends], "number": number, "ran": ran}
-
-    def _over(self, ends: list[tuple[str, Ended]], number: int, ran: bool = True) -> None:
+    def _over(self, ends: list[tuple[int, Ended]], number: int, ran: bool = True) -> None:
         """The job is over: that is noted with the next record."""
+        self._note_ends(ends)
         self.job, self.number = None, number
         if not ran:
             self.jobs.pop()
-        for name, end in ends:
-            self._answer(name, end)
-        self.pending.append(self._record(ends, number, ran))
+        over = [[place, str(end)] for place, end in ends]
+        self.pending.append({"over": over, "number": number, "ran": ran})
 
 
 def keep_job(folder: str, opening: bytes, number: int, text: bytes, report: bytes) -> None:

@@ -1,11 +1,12 @@
 """The program: where it is, and the one way in which it is called (docs/FORMATS.md, "Words" and "Statuses")."""
 from __future__ import annotations
 
+import contextlib
 import os
 import stat
 import subprocess
 import sys
-from typing import NamedTuple, Optional, Sequence
+from typing import NamedTuple, Optional, Protocol, Sequence
 
 from romp801 import files, words
 from romp801.errors import WRONG_USE, Failure
@@ -26,6 +27,31 @@ def _runs(path: str) -> bool:
     """Whether a file has this name that is one to run."""
     found = files.look(path)
     return found is not None and stat.S_ISREG(found.st_mode) and found.st_mode & 0o111 != 0
+
+
+def _look_at_words(line: Sequence[str]) -> None:
+    """Raises Failure where a word is none that the program takes."""
+    for word in line:
+        try:
+            os.fsencode(word).decode("utf-8")
+        except UnicodeDecodeError as error:
+            raise Failure(
+                f"the program takes names in UTF-8 alone, and {os.fsencode(word)!r} isn't", WRONG_USE
+            ) from error
+
+
+class Held(Failure):
+    """Another process runs the store."""
+
+    def __init__(self, store: str) -> None:
+        super().__init__(f"another process has {store}")
+
+
+class Starter(Protocol):
+    """What starts the program with words on bytes: Program, or Ahead."""
+
+    def start(self, *line: str, given: bytes = b"", keeps: Sequence[int] = ()) -> subprocess.Popen[bytes]:
+        """Starts the program."""
 
 
 class Replay(NamedTuple):
@@ -71,21 +97,24 @@ class Program:
         self, *line: str, given: bytes = b"", keeps: Sequence[int] = (), output: int = subprocess.PIPE
     ) -> subprocess.Popen[bytes]:
         """Starts the program with these words on these bytes; its output and errors are pipes, or its output goes into
-        an open file. Of a store memory forgets the clean pages first, so that the program opens what the medium holds.
-        `keeps` are open files that it has too, among them a store that lies in memory alone, which isn't forgotten."""
-        for word in line:
-            try:
-                os.fsencode(word).decode("utf-8")
-            except UnicodeDecodeError as error:
-                raise Failure(
-                    f"the program takes names in UTF-8 alone, and {os.fsencode(word)!r} isn't", WRONG_USE
-                ) from error
-        if line[0] in OF_A_STORE and not keeps:
-            files.forget_store(line[1])
+        an open file. Of a store memory forgets the clean pages first, so that the program opens what the medium holds;
+        where another process runs it Held is raised. `keeps` are open files that it has too, among them a store that
+        lies in memory alone, which isn't forgotten."""
+        _look_at_words(line)
+        if line[0] in OF_A_STORE and not keeps and not files.forget_store(line[1]):
+            raise Held(line[1])
         with files.in_memory(given) as text:
             return subprocess.Popen(
                 [self.path, *line], stdin=text, stdout=output, stderr=subprocess.PIPE, pass_fds=tuple(keeps)
             )
+
+    def begin(self, *line: str) -> subprocess.Popen[bytes]:
+        """Starts the program with these words before its input is known. It opens no store before it has all of that,
+        and an input without an end is no job; so where whoever would give it ends instead, it does nothing."""
+        _look_at_words(line)
+        return subprocess.Popen(
+            [self.path, *line], stdin=subprocess.PIPE, stdout=subprocess.PIPE, stderr=subprocess.PIPE
+        )
 
     def call(
         self, *line: str, given: bytes = b"", seconds: Optional[float] = 0.0, keeps: Sequence[int] = ()
@@ -94,15 +123,25 @@ class Program:
         `seconds` long. `keeps` are open files that the program has too."""
         wait = files.Wait(seconds)
         while True:
-            with self.start(*line, given=given, keeps=keeps) as child:
-                output, errors = child.communicate()
+            done = self._once(line, given, keeps)
             if (
-                child.returncode != BUSY
-                or output
+                done.returncode != BUSY
+                or done.stdout
                 or line[0] not in OF_A_STORE
                 or not wait.for_store(line[1], line[0] not in LOOKS)
             ):
-                return subprocess.CompletedProcess(child.args, child.returncode, output, errors)
+                return done
+
+    def _once(
+        self, line: Sequence[str], given: bytes, keeps: Sequence[int]
+    ) -> subprocess.CompletedProcess[bytes]:
+        """A call that waits for nobody."""
+        try:
+            with self.start(*line, given=given, keeps=keeps) as child:
+                output, errors = child.communicate()
+            return subprocess.CompletedProcess(child.args, child.returncode, output, errors)
+        except Held:
+            return subprocess.CompletedProcess(line, BUSY, b"", b"disk\n")
 
     def number(self, store: str, seconds: Optional[float] = 0.0) -> int:
         """The number of a store, told by the program, which syncs the file as it opens it; raises Failure where it
@@ -135,6 +174,58 @@ class Program:
                     break
             child.kill()
         return Replay(report, reached)
+
+
+class Ahead:
+    """The program for one job after another on a store: each is begun while the one before runs. Memory forgets the
+    store's clean pages in front of the first one, and of each one behind a job that failed or behind which somebody else
+    wrote the store: behind one that went well there is nothing that wasn't synced."""
+
+    def __init__(self, romp801: Program, *line: str) -> None:
+        self.program, self.line = romp801, line
+        self.waiting: Optional[subprocess.Popen[bytes]] = None
+        self.left: Optional[files.Mark] = None
+
+    def done(self, went_well: bool) -> None:
+        """A job is over: where it went well the store is as it left it."""
+        self.left = files.mark_of(self.line[1]) if went_well else None
+
+    def start(self, *line: str, given: bytes = b"", keeps: Sequence[int] = ()) -> subprocess.Popen[bytes]:
+        """Gives these bytes to the program with its words, and begins the next one."""
+        assert line == self.line and not keeps
+        child, self.waiting = self.waiting, None
+        if child is None or child.poll() is not None:
+            self._leave(child)
+            child = self.program.begin(*self.line)
+        left, self.left = self.left, None
+        if (left is None or left != files.mark_of(self.line[1])) and not files.forget_store(self.line[1]):
+            self.waiting = child
+            raise Held(self.line[1])
+        assert child.stdin is not None
+        with contextlib.suppress(BrokenPipeError):  # (it was killed, and its status tells)
+            child.stdin.write(given)
+        with contextlib.suppress(BrokenPipeError):
+            child.stdin.close()
+        child.stdin = None
+        with contextlib.suppress(OSError):
+            self.waiting = self.program.begin(*self.line)
+        return child
+
+    def end(self) -> None:
+        """Ends the one that waits."""
+        child, self.waiting = self.waiting, None
+        if child is not None:
+            child.kill()
+        self._leave(child)
+
+    @staticmethod
+    def _leave(child: Optional[subprocess.Popen[bytes]]) -> None:
+        """Takes what is left of one that has ended, or ends."""
+        if child is not None:
+            for pipe in (child.stdin, child.stdout, child.stderr):
+                if pipe is not None:
+                    pipe.close()
+            child.wait()
 
 
 def refused(

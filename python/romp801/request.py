@@ -7,6 +7,7 @@ where one isn't, and else writes. So it is one more commit of the proved program
 from __future__ import annotations
 
 import collections
+import functools
 from typing import Any, Callable, Iterable, Iterator, Mapping, NamedTuple, Optional, Sequence, Union
 
 from romp801 import job, program
@@ -86,62 +87,78 @@ def words_at(segment: int, offset: int, data: bytes) -> Iterator[Word]:
 
 
 LOOK = """
-        cal  r9, r0, {count}
-look:   l    r6, 0(r8)
-        l    r7, 0(r6)
-        l    r10, 4(r8)
-        n    r7, r10
-        l    r10, 8(r8)
-        cl   r7, r10
-        jnb  eq, no
-        ai   r8, r8, 12
-        sis  r9, 1
-        jnb  eq, look
+cal r9, r0, {looks}
+look: l r6, 0(r8)
+l r7, 0(r6)
+l r10, 4(r8)
+n r7, r10
+l r10, 8(r8)
+cl r7, r10
+jnb eq, no
+ai r8, r8, 12
+sis r9, 1
+jnb eq, look
 """
 PUT = """
-        cal  r9, r0, {count}
-put:    l    r6, 0(r8)
-        l    r10, 4(r8)
-        l    r11, 8(r8)
-        onec r12, r10
-        jb   eq, whole
-        l    r7, 0(r6)
-        n    r7, r12
-        o    r11, r7
-whole:  st   r11, 0(r6)
-        ai   r8, r8, 12
-        sis  r9, 1
-        jnb  eq, put
+cal r9, r0, {puts}
+put: l r6, 0(r8)
+l r10, 4(r8)
+l r11, 8(r8)
+onec r12, r10
+jb eq, whole
+l r7, 0(r6)
+n r7, r12
+o r11, r7
+whole: st r11, 0(r6)
+ai r8, r8, 12
+sis r9, 1
+jnb eq, put
 """
+
+
+class _Code(NamedTuple):
+    """The rows of a transaction in front of its words, and their bytes."""
+
+    text: str
+    size: int
+
+
+@functools.lru_cache(maxsize=None)
+def _code(looks: bool, puts: bool) -> _Code:
+    """The rows of one that compares, or writes; {looks} and {puts} stand for how many words."""
+    text = "cal r8, r0, data\n" + (LOOK if looks else "") + (PUT if puts else "") + "svc 0\nno: svc 2"
+    rows = [line.strip() for line in text.split("\n") if line.strip()]
+    size = sum(job.size_of(_statement(row.format(looks=0, puts=0))) for row in rows)
+    # (words are loaded from addresses that are a multiple of four)
+    rows += [".half 0"] * (size % 4 // 2) + ["data: .space 0"]
+    return _Code("\n".join(rows), size + size % 4)
 
 
 def written_out(name: str, it: Apply) -> job.Program:
     """The program of a transaction; raises Failure where it has too many words, or segments."""
+    register = _registers(it)
+    writes = {word.segment for word in it.write}
+    code = _code(bool(it.compare), bool(it.write))
+    data = [
+        f".word {number}"
+        for word in (*it.compare, *it.write)
+        for number in ((register[word.segment] << 28) + word.offset, word.mask, word.value)
+    ]
+    windows = [f".window {place}, {it}, {'rw' if it in writes else 'r'}" for it, place in register.items()]
+    rows = code.text.format(looks=len(it.compare), puts=len(it.write)).split("\n")
+    return job.Program(name, (*windows, *rows, *data))
+
+
+def _registers(it: Apply) -> dict[int, int]:
+    """The register of each segment of a transaction; raises Failure where it has too many words, or segments."""
     segments = sorted({word.segment for word in (*it.compare, *it.write)})
     if len(segments) > 15:
         raise Failure(f"a transaction has at most fifteen segments, and this one {len(segments)}", WRONG_USE)
-    register = {segment: place for place, segment in enumerate(segments, 1)}
-    writes = {word.segment for word in it.write}
-    parts = [(LOOK, it.compare), (PUT, it.write)]
-    rows = ["cal r8, r0, data"]
-    for text, words in parts:
-        rows += [line.strip() for line in text.format(count=len(words)).strip().split("\n")] if words else []
-    rows += ["svc 0", "no: svc 2"]
-    size = sum(job.size_of(_statement(row)) for row in rows)
-    # (words are loaded from addresses that are a multiple of four)
-    rows += [".half 0"] * (size % 4 // 2) + ["data: .space 0"]
-    size += size % 4 + 12 * (len(it.compare) + len(it.write))
-    if size > IMAGE:
+    code = _code(bool(it.compare), bool(it.write))
+    if code.size + 12 * (len(it.compare) + len(it.write)) > IMAGE:
         most = (IMAGE - 100) // 12
         raise Failure(f"a transaction touches at most some {most} words, which it reads or writes", WRONG_USE)
-    data = [
-        f".word {number}"
-        for _, words in parts
-        for word in words
-        for number in ((register[word.segment] << 28) + word.offset, word.mask, word.value)
-    ]
-    windows = [f".window {register[it]}, {it}, {'rw' if it in writes else 'r'}" for it in segments]
-    return job.Program(name, (*windows, *rows, *data))
+    return {segment: place for place, segment in enumerate(segments, 1)}
 
 
 def _statement(row: str) -> list[str]:
@@ -169,7 +186,7 @@ class Front:
             return
         for word in (*it.compare, *it.write):
             _check_word(word, segments)
-        written_out("t", it)
+        _registers(it)
 
     def _check_run(self, it: Run) -> None:
         """A program's name and its values."""
@@ -306,7 +323,7 @@ class Told(NamedTuple):
 
 
 def run_job(
-    romp801: program.Program,
+    romp801: program.Starter,
     store: str,
     text: bytes,
     take: Callable[[Ended], None],
@@ -317,14 +334,25 @@ def run_job(
     long. `keeps` are open files that the program has too."""
     wait = Wait(seconds)
     while True:
-        told: list[bytes] = []
-        with romp801.start("run", store, given=text, keeps=keeps) as child:
-            assert child.stdout is not None and child.stderr is not None
-            for line in child.stdout:
-                told.append(line)
-                end = end_of(line) if line.endswith(b"\n") else None
-                if end is not None:
-                    take(end)
-            errors = child.stderr.read()
-        if child.returncode != program.BUSY or told or not wait.for_store(store):
-            return Told(b"".join(told), child.returncode, errors)
+        try:
+            told = _run_once(romp801, store, text, take, keeps)
+        except program.Held:
+            told = Told(b"", program.BUSY, b"disk\n")
+        if told.status != program.BUSY or told.report or not wait.for_store(store):
+            return told
+
+
+def _run_once(
+    romp801: program.Starter, store: str, text: bytes, take: Callable[[Ended], None], keeps: Sequence[int]
+) -> Told:
+    """Runs a job on a store that nobody has."""
+    told: list[bytes] = []
+    with romp801.start("run", store, given=text, keeps=keeps) as child:
+        assert child.stdout is not None and child.stderr is not None
+        for line in child.stdout:
+            told.append(line)
+            end = end_of(line) if line.endswith(b"\n") else None
+            if end is not None:
+                take(end)
+        errors = child.stderr.read()
+    return Told(b"".join(told), child.returncode, errors)

@@ -2,16 +2,18 @@
 
 A client sends lines of JSON, and each is answered by a line with the same `tag`, in whatever order they end:
 
-    {"tag": 1, "name": "7f.0", "run": ["move", 30, 0, 128]}
+    {"tag": 1, "name": [812, "7f", 0, 0], "run": ["move", 30, 0, 128]}
         {"tag": 1, "end": "commit 3 number 57 steps 14 out -"}      a report's line; its activation means nothing
-    {"tag": 2, "name": "7f.1", "compare": [[1, 256, 4294967295, 5]], "write": [[1, 256, 4294967295, 6]]}
+    {"tag": 2, "name": "order 17", "compare": [[1, 256, 4294967295, 5]], "write": [[1, 256, 4294967295, 6]]}
         segment, offset, mask and value of words (romp801.request)
-    {"tag": 3, "answered": "7f.0"}                                  {"tag": 3, "end": LINE or null}
+    {"tag": 3, "answered": "order 17"}                              {"tag": 3, "end": LINE or null}
     {"tag": 4, "read": [[1, 256, 4]]}                               {"tag": 4, "number": 57, "bytes": ["00000006"]}
-    {"tag": 5, "stat": true}                                        {"tag": 5, "number": 57, "segments": {"1": 4096}, ..}
+    {"tag": 5, "stat": true}            {"tag": 5, "number": 57, "count": 812, "segments": {"1": 4096}, ..}
 
-A name is answered once and for ever (romp801.ledger). What isn't answered so is told by `error` or `again`
-(romp801.listener).
+A name is a text, which is answered once and for ever, or a session's: the `count` when it began, its own name, from
+which of its requests on it has no answer, and which one this is (romp801.answers). Where it may have been forgotten
+what became of it `{"tag": 1, "late": true}` is answered, and nothing is done. What else isn't answered is told by
+`error` or `again` (romp801.listener).
 """
 from __future__ import annotations
 
@@ -26,17 +28,19 @@ import threading
 from typing import Any, Mapping, Optional
 
 from romp801 import files
+from romp801.answers import Key, key_of
 from romp801.client import READ, Source
+from romp801.cluster.table import Late, Old
 from romp801.errors import Failure, named
 from romp801.follower import Follower
 from romp801.gather import Gatherer
-from romp801.ledger import Ledger
+from romp801.ledger import Ledger, asked_as
 from romp801.listener import LONGEST, Client, Lines, Waiting, mistaken
 from romp801.report import Commit, Ended
 from romp801.request import Asked, request_of
 
-NAME = 200
-"""Characters of a name, at most."""
+SOME = 32
+"""Commits that are taken from the journal at once, at most: not so many that it is begun anew meanwhile."""
 
 
 class Worker(Gatherer):
@@ -47,14 +51,26 @@ class Worker(Gatherer):
         self.server, self.ship = server, ship
         self.lock = threading.Lock()
         self.follower = Follower(ledger.store, ledger.seconds)
+        self.due = self.follower.number
 
     def told(self, asked: Asked, end: Ended) -> None:
-        """A request ended: what it wrote is at hand before it is answered."""
+        """A request ended: who reads from now on has what it wrote."""
         if isinstance(end, Commit):
-            with self.lock:
-                if not self.follower.to(end.number):
-                    self.server.is_behind = True
+            self.due = end.number
+            if end.number - self.follower.number >= SOME:
+                self.keep_up()
         self.server.waiting.told(asked.name, end)
+
+    def keep_up(self) -> None:
+        """What was committed and told is at hand, or the store is to be read anew."""
+        with self.lock:
+            try:
+                is_there = self.follower.to(self.due)
+            except Failure:
+                is_there = False
+        if not is_there:
+            self.server.is_behind = True
+            self.wake.set()
 
     def untold(self, asked: list[Asked], failure: Failure) -> None:
         """The job of these failed: whoever waits for one is told so."""
@@ -67,6 +83,7 @@ class Worker(Gatherer):
 
     def after(self) -> None:
         """Between two jobs: the command, and the store read anew where a job was far ahead of its report."""
+        self.keep_up()
         if self.server.is_behind:
             with self.lock:
                 self.follower.read()
@@ -76,6 +93,7 @@ class Worker(Gatherer):
 
     def over(self) -> None:
         """The thread ends, and the server with it."""
+        self.follower.close()
         self.server.over()
 
 
@@ -134,33 +152,41 @@ class Server(Lines):
     async def message(self, client: Client, tag: Any, message: dict[str, Any]) -> None:
         """Answers a message, or has it wait."""
         if "run" in message or "write" in message:
-            await self._ask(client, tag, _name(message["name"]), message)
+            await self._ask(client, tag, key_of(message["name"]), message)
         elif "answered" in message:
-            client.put({"tag": tag, "end": None, **(self._known(_name(message["answered"])) or {})})
+            client.put({"tag": tag, **(self._known(key_of(message["answered"])) or {"end": None})})
         elif "read" in message:
             await self._read(client, tag, message["read"])
         elif "stat" in message:
+            self.worker.keep_up()
             follower = self.worker.follower
             segments = {str(segment): size for segment, size in follower.segments.items()}
             counts = {"jobs": self.worker.jobs, "clients": self.clients, "waiting": len(self.waiting.waits)}
+            counts["count"] = self.ledger.answers.count
             client.put({"tag": tag, "number": follower.number, "segments": segments, **counts})
         else:
             raise mistaken("a request has `run`, `write`, `answered`, `read` or `stat`")
 
-    def _known(self, name: str) -> Optional[Mapping[str, Any]]:
-        """What is told of a name that was answered."""
-        found = self.ledger.answers.get(name)
-        return None if found is None else {"end": str(found)}
+    def _known(self, key: Key) -> Optional[Mapping[str, Any]]:
+        """What is told of a request that has come to something already."""
+        found = self.ledger.answers.find(key)
+        if isinstance(found, Ended):
+            return {"end": str(found)}
+        if isinstance(found, Old):
+            return {"error": "this request was answered before"}
+        return {"late": True} if isinstance(found, Late) else None
 
-    async def _ask(self, client: Client, tag: Any, name: str, message: dict[str, Any]) -> None:
-        """A request under its name: one that was answered is answered so again, and one that waits is waited for."""
-        request = request_of(message)
-        if name not in self.ledger.answers:
-            self.ledger.front.check(request, self.worker.follower.segments)
-        await self.waiting.wait(client, tag, name, request, lambda: self._known(name))
+    async def _ask(self, client: Client, tag: Any, key: Key, message: dict[str, Any]) -> None:
+        """A request under its key: one that was answered is answered so again, and one that waits is waited for."""
+        asked = asked_as(key, request_of(message))
+        if self._known(key) is None:
+            self.ledger.answers.check(key)
+            self.ledger.front.check(asked.request, self.worker.follower.segments)
+        await self.waiting.wait(client, tag, asked.name, asked.request, lambda: self._known(key), key)
 
     async def _read(self, client: Client, tag: Any, ranges: list[list[int]]) -> None:
         """Bytes of one moment, which isn't before anything that was answered."""
+        self.worker.keep_up()
         while self.is_behind:
             await self.fresh.wait()
         with self.worker.lock:
@@ -179,13 +205,6 @@ def bytes_of(held: Source, ranges: list[list[int]]) -> list[str]:
             raise mistaken(f"segment {segment} has no {count} bytes at {offset}, or they are too many")
         found.append(held.bytes_at(segment, offset, count).hex())
     return found
-
-
-def _name(name: Any) -> str:
-    """A request's name."""
-    if not isinstance(name, str) or not 0 < len(name) <= NAME:
-        raise mistaken(f"a name is a text of 1 to {NAME} characters")
-    return name
 
 
 def listening(path: str, mode: int) -> socket.socket:

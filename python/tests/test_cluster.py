@@ -2,20 +2,25 @@
 in."""
 from __future__ import annotations
 
+import subprocess
 import unittest
 from typing import Any, Dict, List, Optional
+from unittest import mock
 
 from romp801 import Failure, Store, files
+from romp801.cluster import held as held_module
 from romp801.cluster import table
-from romp801.cluster.held import Content, Held
+from romp801.cluster.held import Content, Held, Journal
 from romp801.cluster.history import Done, Entry, link, merged
 from romp801.cluster.keys import Config, Slot
 from romp801.cluster.safety import Safety, address
 from romp801.cluster.setup import named
 from romp801.cluster.table import Late, Old, Seen, Table, Who
 from romp801.report import Check, Commit
-from romp801.request import Apply, Front, Run, Word, message_of
+from romp801.job import Checkpoint
+from romp801.request import Apply, Front, Request, Run, Word, message_of
 
+from tests.engines import of
 from tests.stores import PROGRAMS, Case
 
 
@@ -64,6 +69,26 @@ class Tables(unittest.TestCase):
         self.assertIsInstance(made.find(who("b", 0)), Late)
         self.assertIsNone(made.find(who("e", 0, 0, 2)))
 
+    def test_forgotten_meanwhile(self) -> None:
+        """Of a session that was forgotten while a request of it was run what came of that is told, and of others that
+        it isn't known."""
+        setattr(table, "SESSIONS", 2)
+        made = Table()
+        made.take(who("a", 0), commit(1), 1)
+        self.assertIsNone(made.find(who("a", 1)))
+        for number, session in enumerate("bcd", 2):
+            made.take(who(session, 0, 0, 1), commit(number), number)
+        made.take(who("a", 1), commit(5), 5)
+        made = Table.of(made.copy().raw())
+        self.assertEqual(made.find(who("a", 1)), commit(5))
+        for place in (0, 2):
+            self.assertIsInstance(made.find(who("a", place)), Late)
+        made.take(who("a", 4, 3), commit(6), 6)
+        self.assertIsInstance(made.find(who("a", 0)), Old)
+        self.assertIsInstance(made.find(who("a", 5)), Late)
+        made.take(who("e", 0, 0, 4), commit(7), 7)
+        self.assertIsNone(made.find(who("e", 1, 0, 4)))
+
     def test_model(self) -> None:
         """Against a model that forgets nothing: no request is done twice, whichever are forgotten."""
         setattr(table, "SESSIONS", 4)
@@ -73,14 +98,18 @@ class Tables(unittest.TestCase):
         order = random.Random(801)
         made, number = Table(), 0
         done: Dict[Any, int] = {}
-        for _ in range(4000):
-            since = max(0, number - order.randrange(60))
-            it = who(f"{since}.{order.randrange(3)}", order.randrange(3), 0, since)
-            found, key = made.find(it), (it.session, it.place)
-            if isinstance(found, Commit):
-                self.assertEqual(done[key], found.number)
-            elif found is None:
-                self.assertNotIn(key, done)
+        for _ in range(2000):
+            batch: Dict[Any, Who] = {}
+            for _ in range(order.randrange(1, 9)):
+                since = max(0, number - order.randrange(60))
+                it = who(f"{since}.{order.randrange(3)}", order.randrange(3), 0, since)
+                found, key = made.find(it), (it.session, it.place)
+                if isinstance(found, Commit):
+                    self.assertEqual(done[key], found.number)
+                elif found is None:
+                    self.assertNotIn(key, done)
+                    batch[key] = it
+            for key, it in batch.items():
                 number += 1
                 done[key] = number
                 made.take(it, commit(number), number)
@@ -209,10 +238,11 @@ class History(Case):
             if held is not None:
                 held.close()
             held = Held(self.program, image)
-            done = held.run(front.job([Run("add", (256, value))]), lambda end: None)
+            done = held.job(front.job([Run("add", (256, value))]), lambda end: None)
             self.assertEqual(done.status, 0)
-            texts.append(held.call("ship", str(number)).stdout.decode())
+            texts.append(held.shipped(number))
             image, number = held.image(), number + 1
+        of(held).close()
         follower = Held(self.program, first)
         content = Content(follower.image())
         for place, text in enumerate(texts, 1):
@@ -222,6 +252,75 @@ class History(Case):
         self.assertEqual((store.number, content.number), (3, 3))
         self.assertEqual(b"".join(store.content().values()), bytes(content.bytes))
         self.assertEqual(content.bytes_at(1, 256, 4), (18).to_bytes(4, "big"))
+
+    def test_prepared(self) -> None:
+        """A process that was begun before its job runs on the store as it is by then, for one that was killed another
+        is begun, and a store that is forgotten has none."""
+        held = Held(self.program, files.read_bytes(self.second))
+        job = Front(PROGRAMS).job([Run("add", (256, 5))])
+        for number in range(6):
+            if number % 3 == 1:
+                held.prepare()
+            if number == 4:
+                assert held.waiting is not None
+                held.waiting.kill()
+                held.waiting.wait()
+            ends: List[Any] = []
+            told = held.job(job, ends.append)
+            self.assertEqual((told.status, [it.number for it in ends]), (0, [number + 1]))
+            self.assertEqual(told.report.split(b"\n")[-2], b"end %d" % (number + 1))
+            self.assertEqual(held.shipped(number).split("\n")[-2], f"end {number + 1}")
+        waiting = held.waiting
+        held.close()
+        assert waiting is not None
+        self.assertIsNotNone(waiting.returncode)
+
+    def test_text(self) -> None:
+        """The text that is read out of the records is what `ship` prints: of commits of no line, of one and of many,
+        in either bank, of both versions; and there is none where a checkpoint has come between."""
+        import random
+
+        order = random.Random(801)
+        for path in (self.first, self.second):
+            image = files.read_bytes(path)
+            held, journal, front, number = Held(self.program, image), Journal(image), Front(PROGRAMS), 0
+            for turn in range(12):
+                some = [Run("add", (4 * order.randrange(500), 5)) for _ in range(order.randrange(4))]
+                words = tuple(Word(1, 4 * it, 0xFFFFFFFF, turn) for it in order.sample(range(500), turn))
+                told = held.job(front.job([*some, Apply((), words)], 1, [Checkpoint()]), lambda end: None)
+                self.assertEqual(told.status, 0)
+                text = journal.text(held.file, number)
+                self.assertEqual(text, held.shipped(number))
+                last = int(told.report.split()[-1])
+                self.assertEqual(journal.text(held.file, last), None if last > number else text)
+                number = last
+            full: List[Request] = [Run("add", (256, 1))] * 400
+            last = int(held.job(front.job(full, 1, [Checkpoint()]), lambda end: None).report.split()[-1])
+            self.assertEqual((last, journal.text(held.file, number)), (number + 400, None))
+            with self.assertRaises(Failure):
+                held.shipped(number)
+            held.close()
+
+    def test_killed(self) -> None:
+        """A call of `ship` whose process is killed is made again, and one that is killed each time fails."""
+        held = Held(self.program, files.read_bytes(self.second))
+        self.addCleanup(held.close)
+        real, killed = held.call, subprocess.CompletedProcess[bytes]([], -9, b"", b"")
+        for times, ends in ((3, True), (held_module.TRIES, False)):
+            left = [killed] * times
+            with mock.patch.object(held, "call", lambda *its: left.pop() if left else real(*its)):
+                if ends:
+                    self.assertEqual(held.shipped(0).split("\n")[-2], "end 0")
+                else:
+                    self.assertRaises(Failure, held.shipped, 0)
+
+    def test_failed(self) -> None:
+        """A job that is refused has its status and its words."""
+        held = Held(self.program, files.read_bytes(self.second))
+        self.addCleanup(held.close)
+        told = held.job(b"nothing\n", lambda end: None)
+        self.assertEqual((told.status, told.report), (3, b""))
+        self.assertIn(b"job 1", told.errors)
 
 
 if __name__ == "__main__":

@@ -11,14 +11,16 @@ import time
 import unittest
 from types import SimpleNamespace
 from typing import Any, Callable, Dict, List, Optional, Tuple, cast
+from unittest import mock
 
-from romp801 import Records, files, program
+from romp801 import Failure, Records, files, program
 from romp801.cluster import engine as etcd
+from romp801.cluster import replica as replica_module
 from romp801.cluster import setup
 from romp801.cluster.audit import audit_store
 from romp801.cluster.client import Cluster, Moved
 from romp801.cluster.engine import Part
-from romp801.cluster.held import Content
+from romp801.cluster.held import Content, Held, Journal
 from romp801.cluster.history import Entry
 from romp801.cluster.keeper import Serving
 from romp801.cluster.keys import CONFIG, Config, Keys, Slot
@@ -168,6 +170,39 @@ class Told(Cases):
             found = one.ask(ADD, session="b", at=place)[0].split()
             self.assertEqual(int(found[3]), place + 2)
 
+    def test_another_text(self) -> None:
+        """Where what is put isn't what `ship` prints nobody is told, and the term is over."""
+        one = self.primary()
+        one.ask(ADD)
+        real = Journal.text
+        with mock.patch.object(Journal, "text", lambda *its: of(real(*its)).replace("0a", "0b")):
+            self.assertEqual(one.ask(ADD, session="b"), ["-"])
+        self.assertEqual((one.ask(ADD, session="c"), one.untold, one.told[1:]), (["-"], ["b.0", "c.0"], []))
+        self.assertIn("`ship`", of(one.term.why))
+
+    def test_behind_ship(self) -> None:
+        """A commit that the engine has taken is told when `ship` has printed it."""
+        one = self.primary()
+        going, real = threading.Event(), Held.shipped
+
+        def shipped(held: Held, number: int) -> str:
+            """It takes long."""
+            going.wait(10)
+            return real(held, number)
+
+        with mock.patch.object(Held, "shipped", shipped):
+            other = threading.Thread(target=one.start, args=(ADD,))
+            other.start()
+            end = time.monotonic() + 10
+            while not one.commits() and time.monotonic() < end:
+                time.sleep(0.01)
+            time.sleep(0.1)
+            self.assertEqual((one.commits(), one.told), ([("a", 0, 1)], []))
+            going.set()
+            other.join(10)
+        one.term._wait_settled()
+        self.assertEqual([(name, str(end)) for name, end in one.told], [("a.0", "commit 1 number 1 steps 6 out -")])
+
     def test_lost_answers(self) -> None:
         """Of a call without an answer it is looked at what came of it: it is told once, and done once."""
         one = self.primary()
@@ -256,6 +291,20 @@ class Once(Cases):
         two = self.primary("n2")
         self.assertEqual(two.ask(ADD)[0].split()[3], "1")
         self.assertEqual(two.commits(), [("a", 0, 1)])
+
+    def test_answered(self) -> None:
+        """An old copy of one whose answer the client has, and one of a session that may be forgotten, aren't run."""
+        one = self.primary()
+        one.ask(ADD, session="a", at=0)
+        one.ask(ADD, session="a", at=1)
+        one.told.clear()
+        self.assertEqual((one.ask(ADD, session="a", at=0), one.untold), (["-"], ["a.0"]))
+        swap = Apply((Word(1, 256, 0xFFFFFFFF, 5),), (Word(1, 256, 0xFFFFFFFF, 9),))
+        gave_up = one.ask(swap, session="b")
+        one.term.table.horizon = 5
+        self.assertEqual(one.ask(swap, session="b"), gave_up)
+        self.assertEqual((one.ask(ADD, session="c"), one.untold[1:]), (["-"], ["c.0"]))
+        self.assertEqual(one.commits(), [("a", 0, 1), ("a", 1, 2)])
 
     def test_gave_up(self) -> None:
         """One that gave up isn't run again in this term."""
@@ -508,6 +557,26 @@ class Histories(Cases):
         aside = [it for it in os.listdir(self.path("n1")) if it.startswith("a.other-2-")]
         self.assertEqual(len(aside), 1)
 
+    def test_many(self) -> None:
+        """A copy that begins with an old image reads more and more of small entries at once, and says whether it is
+        far behind; where the engine doesn't answer it reads few again."""
+        one = self.primary()
+        for place in range(60):
+            one.ask(ADD, session="b", at=place)
+        copy = Replica(self.engine, self.program, "a", self.path("n1"), one.replica.cluster, lambda said: None)
+        copy.install()
+        with mock.patch.object(replica_module, "BEHIND", 59):
+            self.assertTrue(copy.is_behind())
+        self.assertFalse(copy.is_behind())
+        numbers = []
+        while copy.follow():
+            numbers.append((copy.number, copy.most))
+        self.assertEqual(numbers, [(16, 32), (48, 64), (60, 16)])
+        copy.most = 64
+        with mock.patch.object(self.engine, "range", side_effect=etcd.EngineFault("too much")):
+            self.assertRaises(etcd.EngineFault, copy.follow)
+        self.assertEqual(copy.most, 16)
+
     def test_file_of_another(self) -> None:
         """A file of another history that is there at the start is set aside too, and one of this history isn't."""
         one = self.primary()
@@ -521,6 +590,32 @@ class Histories(Cases):
         files.write_whole(self.path("n1/a.at"), json.dumps({**note, "sum": "0" * 64}).encode())
         self.primary("n1")
         self.assertEqual(len([it for it in os.listdir(self.path("n1")) if "other" in it]), 1)
+
+
+class Made(Cases):
+    """How a cluster is made."""
+
+    def test_again(self) -> None:
+        """One whose making broke off is made by the next call, and of other files it isn't."""
+        engine = Memory()
+        losing = [True]
+
+        def before(compares: List[Part], deeds: List[Part]) -> None:
+            """The last call has no answer."""
+            if losing and deeds[0].get("request_put", {}).get("key") == etcd.text64(CONFIG):
+                raise Lost(False)
+
+        engine.before = before
+        with self.assertRaises(etcd.EngineFault):
+            setup.make(engine, PROGRAMS, {"a": self.second}, 4)
+        losing.clear()
+        with self.assertRaises(Failure) as raised:
+            setup.make(engine, PROGRAMS, {"a": self.first}, 4)
+        self.assertIn("another store a already", str(raised.exception))
+        setup.make(engine, PROGRAMS, {"a": self.second}, 4)
+        self.assertEqual(Config.read(engine).stores, ("a",))
+        with self.assertRaises(Failure):
+            setup.make(engine, PROGRAMS, {"a": self.second}, 4)
 
 
 class Begins(Cases):

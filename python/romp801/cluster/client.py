@@ -16,7 +16,7 @@ import socket
 import time
 from typing import Any, Callable, Iterable, Mapping, NamedTuple, Optional
 
-from romp801.client import READ, Moment, Store, end_told
+from romp801.client import READ, Moment, Store, TooLate as TooLate, end_told
 from romp801.cluster.safety import Safety, address
 from romp801.cluster.table import AHEAD, ONCE
 from romp801.errors import Failure
@@ -32,10 +32,6 @@ PATIENCE = 5.0
 
 class Moved(Failure):
     """Slots that a request names aren't where it says any more: nothing was done."""
-
-
-class TooLate(Failure):
-    """So much was done since a request was asked that it isn't known any more whether it was done."""
 
 
 class Unanswered(Failure):

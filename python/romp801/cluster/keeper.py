@@ -26,6 +26,10 @@ if TYPE_CHECKING:
 
 PATIENCE = 0.15
 """Seconds that a node waits at most before it takes a store that has no primary: so stores spread."""
+YIELDS = 1.0
+"""Seconds more that it waits where its copy is behind: another may serve sooner."""
+GATHERS = 0.03
+"""Seconds that a copy waits for more entries, but where somebody waits for it."""
 GROWN = 4 << 20
 """Bytes of entries after which an image is put, or twice the store's."""
 
@@ -112,6 +116,9 @@ class Keeper:
                 self.say(f"a mistake: {type(error).__name__}: {error}")
                 time.sleep(0.5)
             self.wake_follow.wait(0.5)
+            # (a moment later there may be more, for one process; nobody is answered by the copy)
+            self.replica.hurry.wait(GATHERS)
+            self.replica.hurry.clear()
             self.wake_follow.clear()
 
     def _image(self) -> None:
@@ -163,7 +170,7 @@ class Keeper:
         if item is None:
             self.primary = None
             order = hashlib.sha256(f"{self.name} {self.node.options.name}".encode()).digest()[0]
-            time.sleep(PATIENCE * (order / 256 + random.random() / 4))
+            time.sleep(PATIENCE * (order / 256 + random.random() / 4) + YIELDS * self.replica.is_behind())
             lease = self.node.lease
             if lease is None:
                 return

@@ -11,6 +11,7 @@ import time
 from typing import Any, NamedTuple, Optional
 
 from romp801 import files, program
+from romp801.errors import Failure
 from romp801.cluster.engine import Engine, EngineFault
 from romp801.cluster.keeper import Keeper, Serving
 from romp801.cluster.keys import CONFIG, STORES, Config, store_of
@@ -22,6 +23,8 @@ from romp801.report import Ended
 from romp801.request import request_of
 from romp801.server import bytes_of
 
+LEAVES = 3
+"""Times that a node that ends tries to give its lease back."""
 GREETING = 10.0
 """Seconds within which a client says the secret."""
 QUIET = 5.0
@@ -156,7 +159,7 @@ class Node:
         self.token = f"{options.name}-{os.getpid()}-{os.urandom(4).hex()}"
         self.lease: Optional[int] = None
         self.keepers: dict[str, Keeper] = {}
-        self.whispered, self.has_begun = 0.0, False
+        self.whispered, self.has_begun, self.is_leaving = 0.0, False, False
         safety.look_at_port(options.listen)
         safety.look_at_engine(engine)
         self.held = files.hold_folder(options.folder)
@@ -174,10 +177,12 @@ class Node:
 
     def _begin(self) -> None:
         """Takes what the engine says of the cluster, when it answers."""
-        while True:
+        config: Optional[Config] = None
+        while config is None:
+            if self.is_leaving:
+                return
             try:
                 config = Config.read(self.engine)
-                break
             except EngineFault as fault:
                 self.whisper(str(fault))
                 time.sleep(0.2)
@@ -190,13 +195,14 @@ class Node:
             threading.Thread(target=work, daemon=True).start()
 
     def _lease_loop(self) -> None:
-        """Has a lease, and says since when there is none."""
+        """Has a lease until the node ends, and says since when there is none."""
         lease, until = None, 0.0
-        while True:
+        while not self.is_leaving:
             now = time.monotonic()
             try:
                 if lease is None:
-                    lease = self.lease = self.engine.grant(self.options.lease)
+                    lease = self.engine.grant(self.options.lease)
+                    self.lease = None if self.is_leaving else lease
                     until = now + self.options.lease
                 elif self.engine.keep(lease) > 0:
                     until = now + self.options.lease
@@ -239,20 +245,30 @@ class Node:
         return {"node": self.options.name, "stores": {name: it.status() for name, it in self.keepers.items()}}
 
     def leave(self) -> None:
-        """Ends: the others needn't wait for the lease's end."""
+        """Ends: the others needn't wait for the lease's end, and it has no other lease any more."""
+        self.is_leaving = True
         lease, self.lease = self.lease, None
-        with contextlib.suppress(EngineFault):
-            if lease is not None:
-                self.engine.revoke(lease)
+        for _ in range(LEAVES):
+            with contextlib.suppress(EngineFault):
+                if lease is not None:
+                    self.engine.revoke(lease)
+                return
 
     async def serve(self, stop: asyncio.Event) -> None:
         """Serves until it is told to stop."""
         self.loop = asyncio.get_running_loop()
         host, at = address(self.options.listen)
         port = Port(self, self.safety)
-        listener = await asyncio.start_server(port.serve, host, at, limit=LONGEST, ssl=self.safety.answers())
-        await self.loop.run_in_executor(None, self._begin)
-        await stop.wait()
+        try:
+            listener = await asyncio.start_server(port.serve, host, at, limit=LONGEST, ssl=self.safety.answers())
+        except OSError as error:
+            raise Failure(f"{self.options.listen} can't be listened at: {error.strerror or error}") from error
+        begun = self.loop.run_in_executor(None, self._begin)
+        waits: list[asyncio.Future[Any]] = [begun, asyncio.ensure_future(stop.wait())]
+        await asyncio.wait(waits, return_when=asyncio.FIRST_COMPLETED)
+        if begun.done():
+            begun.result()
+            await stop.wait()
         listener.close()
         await self.loop.run_in_executor(None, self.leave)
         for keeper in self.keepers.values():

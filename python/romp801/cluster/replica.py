@@ -28,12 +28,17 @@ MERGED = 700000
 """Bytes of texts that are followed by one call."""
 REPLACED = (2, 12, 13)
 """Statuses of `follow` with which a copy can't go on."""
-ENTRIES = 16
-"""Entries that are read at once: an answer of the engine has bounds."""
+ENTRIES, MANY = 16, 256
+"""Entries that are read at once, and small ones: an answer of the engine has bounds."""
+SMALL = 4096
+"""Bytes of an entry that is small."""
+BEHIND = 1000
+"""Commits that a copy lacks where it takes a while until it has them."""
 
 
 class Replica:
-    """The copy. `number` and `sum` say how far it is in the history, and `table` who was answered there."""
+    """The copy. `number` and `sum` say how far it is in the history, and `table` who was answered there. `hurry` is set
+    where somebody waits for it."""
 
     def __init__(
         self,
@@ -47,10 +52,11 @@ class Replica:
         self.engine, self.program, self.name, self.keys = engine, romp801, name, Keys(name)
         self.path, self.cluster, self.say = os.path.join(folder, name), cluster, say
         self.save_after = 5.0
-        self.lock = threading.Lock()
+        self.lock, self.hurry = threading.Lock(), threading.Event()
         self.held: Optional[Held] = None
         self.number, self.sum, self.table = 0, "", Table()
         self.imaged, self.grown, self.size = 0, 0, 0
+        self.most = ENTRIES
         self.saved, self.saved_at = -1, 0.0
         self.images = 0
         self.noted: Optional[tuple[int, str]] = None
@@ -163,8 +169,11 @@ class Replica:
     def _read(self) -> list[Entry]:
         """Some of the entries that the engine has behind the copy."""
         found: list[Entry] = []
-        size = 0
-        for it in self.engine.range(self.keys.log(self.number + 1), etcd.end_of(self.keys.logs), ENTRIES):
+        size, most, self.most = 0, self.most, ENTRIES
+        items = self.engine.range(self.keys.log(self.number + 1), etcd.end_of(self.keys.logs), most)
+        if len(items) == most and all(len(it.value) < SMALL for it in items):
+            self.most = min(MANY, 2 * most)
+        for it in items:
             entry = Entry.of(it.value)
             size += len(entry.text)
             if found and size > MERGED:
@@ -215,6 +224,11 @@ class Replica:
             # (what it has of the text is passed over the next time)
             raise EngineFault(f"{self.name}: follow: {program.ended(done.returncode, done.stderr)}")
         return True
+
+    def is_behind(self) -> bool:
+        """Whether it takes a while until the copy is at the history's end."""
+        item = self.engine.get(self.keys.head)
+        return item is not None and read_head(item.value)[0] > self.number + BEHIND
 
     def snapshot(self) -> Image:
         """The store as it is here, its number, sum and table."""

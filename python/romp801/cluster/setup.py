@@ -49,7 +49,7 @@ def named(pairs: Iterable[str]) -> dict[str, str]:
 
 
 def put_store(engine: Engine, name: str, path: str) -> None:
-    """Puts a store's first image, of a file."""
+    """Puts a store's first image, of a file; one that has it already, as of a call that broke off, has it."""
     keys = Keys(name)
     with files.locked(path) as file:
         image = files.read_all(file, path)
@@ -60,7 +60,9 @@ def put_store(engine: Engine, name: str, path: str) -> None:
         [etcd.is_created(keys.snap, 0), etcd.is_created(keys.head, 0)],
         [etcd.put(keys.snap, snap), etcd.put(keys.head, head_of(number, total))],
     ):
-        raise Failure(f"the engine has a store {name} already", NO)
+        head = engine.get(keys.head)
+        if head is None or head.value != head_of(number, total):
+            raise Failure(f"the engine has another store {name} already", NO)
 
 
 def make(engine: Engine, text: str, stores: Mapping[str, str], slots: int) -> None:

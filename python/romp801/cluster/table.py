@@ -3,11 +3,13 @@
 A client's session is a name that nobody had before, together with the store's number when it began. It counts its
 requests, and says with each from which one on it has no answer. The table forgets sessions that committed nothing for
 long, and then knows from which number on it forgot none (`horizon`): a session that is older than that and isn't there
-may have been forgotten, and is told so; one that isn't older surely did nothing.
+may have been forgotten, and is told so; one that isn't older surely did nothing. One that was forgotten while a request
+of it was run is there with what came of that alone: of others it may have been forgotten.
 """
 from __future__ import annotations
 
 import collections
+from dataclasses import dataclass
 from typing import Any, Iterable, Mapping, NamedTuple, Union
 
 from romp801.report import Commit, Ended, line_of
@@ -56,11 +58,13 @@ class Who(NamedTuple):
         return cls(since, session, first, place)
 
 
-class Old(NamedTuple):
+@dataclass(frozen=True)
+class Old:
     """Of a request that was answered: an old copy of it came."""
 
 
-class Late(NamedTuple):
+@dataclass(frozen=True)
+class Late:
     """Of a session that may have been forgotten: whether it was done isn't known."""
 
 
@@ -68,7 +72,7 @@ Known = Union[Ended, Old, Late, None]
 
 
 class _Session:
-    """What is remembered of one."""
+    """What is remembered of one. Of one that began before `since` some may be forgotten."""
 
     __slots__ = ("since", "first", "ends", "last", "size")
 
@@ -102,7 +106,7 @@ class Table:
 
     def take(self, who: Who, end: Ended, at: int) -> None:
         """A request ended, at this number of the store."""
-        held = self.sessions.pop(who.session, None) or _Session(who.since, who.first, {}, at)
+        held = self.sessions.pop(who.session, None) or _Session(max(who.since, self.horizon), who.first, {}, at)
         before = held.size if held.ends else 0
         held.take(who, end)
         held.last = at
@@ -130,7 +134,9 @@ class Table:
         found = held.ends.get(who.place)
         if found is not None:
             return found
-        return Old() if who.place < held.first else None
+        if who.place < held.first:
+            return Old()
+        return Late() if who.since < held.since else None
 
     def copy(self) -> Table:
         """Another with the same."""

@@ -2,23 +2,25 @@
 
 The primary runs each job on a working copy in memory, and puts its ship text by one transaction of the engine, which
 holds only where the node is still the primary, the history still ends where the job began, and the programs and slots
-are those that it knew. Only then clients are answered. While a text is put the next job runs behind it; where the
-first isn't taken, neither is the second.
+are those that it knew. The text is read out of the records of the job, and meanwhile `ship` prints it: only where both
+are one clients are answered. While a text is put the next job runs behind it; where the first isn't taken, neither is
+the second.
 """
 from __future__ import annotations
 
 import threading
 import time
+from concurrent.futures import Future
 from typing import Any, Callable, NamedTuple, Optional
 
 from romp801 import job, program
 from romp801.cluster import engine as etcd
 from romp801.cluster.engine import Engine, EngineFault, Part, Refused
-from romp801.cluster.held import Content, Held
+from romp801.cluster.held import Content, Held, Journal
 from romp801.cluster.history import LARGEST, Done, Entry, head_of, link
 from romp801.cluster.keys import CONFIG, PROGRAMS, Config
 from romp801.cluster.replica import Replica
-from romp801.cluster.table import Known, Seen, Table, Who
+from romp801.cluster.table import Known, Late, Seen, Table, Who
 from romp801.errors import FAILED, WRONG_USE, Failure
 from romp801.report import Commit, Ended, Finish, line_of
 from romp801.request import BATCH, Asked, Front, Take, is_conflict, is_final, message_of
@@ -52,7 +54,8 @@ class Elsewhere(Ended):
 
 
 class Batch(NamedTuple):
-    """A job that was run: where it began, its entry with its bytes, and how its requests ended."""
+    """A job that was run: where it began, its entry with its bytes, how its requests ended, and whether its text is
+    what `ship` prints, as soon as that is known."""
 
     number: int
     sum: str
@@ -60,6 +63,7 @@ class Batch(NamedTuple):
     entry: Optional[Entry]
     packed: bytes
     ends: list[tuple[Asked, Ended]]
+    is_shipped: Future[bool]
 
 
 class Term:
@@ -105,11 +109,13 @@ class Term:
                 break
             if time.monotonic() > end or not self.is_alive():
                 raise Deposed(f"the copy is at {image.number}, and the history isn't")
+            self.replica.hurry.set()
             self.wake()
-            time.sleep(0.005)
+            time.sleep(0.002)
         if self.work is not None:
             self.work.close()
-        self.work = Held(self.program, image.store)
+        self.work, self.journal = Held(self.program, image.store), Journal(image.store)
+        self.work.prepare()
         with self.lock:
             self.table, self.content, self.settled_config = image.table, Content(image.store), self.config.changed
         self.number, self.sum, self.is_fresh = image.number, image.sum, True
@@ -123,7 +129,8 @@ class Term:
     def find(self, who: Who) -> Known:
         """What became of a request, as far as it is settled."""
         with self.lock:
-            return self.table.find(who) or self.seen.find(who)
+            found = self.table.find(who)
+            return self.seen.find(who) or found if found is None or isinstance(found, Late) else found
 
     # running
 
@@ -167,6 +174,10 @@ class Term:
             if isinstance(found, Ended):
                 self.told(it, found)
                 take(place, found)
+            elif found is not None:
+                # (an old copy, or one of which it isn't known: it is told so where it is asked again)
+                self.untold([it], Failure("it was asked before"))
+                take(place, Elsewhere(0))
             elif not self.config.has(self.replica.name, it.more.guard):
                 ends.append((place, Elsewhere(0)))
             else:
@@ -182,9 +193,11 @@ class Term:
         for place, end in ends:
             take(place, end)
         told = [(asked[it], end) for it, end in ends]
-        self._put(Batch(self.number, self.sum, self.config.changed, entry, packed, told))
+        batch = Batch(self.number, self.sum, self.config.changed, entry, packed, told, Future())
         if entry is not None:
             self.number, self.sum = entry.last, entry.sum
+        if self._put(batch):
+            self._hold(batch)
 
     def _run(self, asked: list[Asked], rounds: int) -> tuple[list[tuple[int, Ended]], int, str]:
         """Runs a job on the working copy: how its requests ended, the number behind it, and its ship text. It begins
@@ -197,7 +210,8 @@ class Term:
             if is_final(end):
                 ends.append((end.activation - 1, end))
 
-        told = self.work.run(self.front.job([it.request for it in asked], rounds, [job.Checkpoint()]), hand)
+        text = self.front.job([it.request for it in asked], rounds, [job.Checkpoint()])
+        told = self.work.job(text, hand)
         if told.status == BIG or told.status == program.JOB and len(asked) > 1:
             raise _TooMuch
         if told.status:
@@ -205,22 +219,16 @@ class Term:
             raise Failure(program.ended(told.status, told.errors), WRONG_USE if told.status == program.JOB else FAILED)
         finish = line_of(told.report.decode().splitlines()[-1])
         assert isinstance(finish, Finish)
-        ran = time.monotonic()
-        text = self._ship(finish.number) if finish.number != self.number else ""
         self.counts["jobs"] += 1
-        self.counts["run"] += ran - begun
-        self.counts["ship"] += time.monotonic() - ran
-        return ends, finish.number, text
+        self.counts["run"] += time.monotonic() - begun
+        return ends, finish.number, self._text(finish.number) if finish.number != self.number else ""
 
-    def _ship(self, last: int) -> str:
-        """The ship text of the job that was run."""
+    def _text(self, last: int) -> str:
+        """The ship text of the job that was run, out of the records that it left."""
         assert self.work is not None
-        shipped = self.work.call("ship", str(self.number))
-        if shipped.returncode == program.NOT_KEPT:
+        text = self.journal.text(self.work.file, self.number)
+        if text is None:
             raise _TooMuch
-        if shipped.returncode:
-            self.is_fresh = False
-        text = program.refused(shipped, "ship").stdout.decode()
         if int(text.split()[-1]) != last:
             raise Deposed(f"the text ends with {text.split()[-1]}, and the job with {last}")
         return text
@@ -236,15 +244,28 @@ class Term:
 
     # putting
 
-    def _put(self, batch: Batch) -> None:
-        """Has a job put, when the one before it is settled."""
+    def _put(self, batch: Batch) -> bool:
+        """Has a job put, when the one before it is settled; answers whether it is being put."""
         self._wait_settled()
         with self.free:
             if self.is_fresh and self.why is None:
                 self.hand = batch
                 self.free.notify_all()
-                return
+                return True
         self._throw_away(batch, "the job before it wasn't taken")
+        return False
+
+    def _hold(self, batch: Batch) -> None:
+        """Holds the text that is being put against what `ship` prints: nobody is told before."""
+        assert self.work is not None
+        begun, is_same = time.monotonic(), False
+        try:
+            is_same = batch.entry is None or self.work.shipped(batch.number) == batch.entry.text
+        except Failure as failure:
+            self.over(str(failure))
+        finally:
+            batch.is_shipped.set_result(is_same)
+            self.counts["ship"] += time.monotonic() - begun
 
     def _wait_settled(self) -> None:
         """Waits until nothing is being put."""
@@ -327,7 +348,9 @@ class Term:
         return False
 
     def _settled(self, batch: Batch) -> None:
-        """A job was taken: all that ended in it is told."""
+        """A job was taken: all that ended in it is told, where its text is that of `ship`."""
+        if not batch.is_shipped.result():
+            raise Deposed(f"what was put behind {batch.number} isn't what `ship` prints")
         with self.lock:
             for it, end in batch.ends:
                 if isinstance(end, Commit):

@@ -17,6 +17,9 @@ COMPARISONS = {"==": "eq", "!=": "ne", "<": "lt", ">": "gt", "<=": "le", ">=": "
 SERVICES = {"commit": (0, 0), "print_byte": (1, 1), "give_up": (2, 0)}
 LITERAL = re.compile(r"(0[xX][0-9a-fA-F]+|0[bB][01]+|[0-9]+)([uU]?[lL]?[lL]?|[lL]{1,2}[uU])$")
 
+UNKNOWN = {"Compound": "a block as a value", "InitList": "a list in braces as a value"}
+"""What parts of a tree are that no reader is for, in words."""
+
 
 class Expressions:
     """Makes expressions of the parser's tree. `text` makes the data of a string."""
@@ -37,7 +40,8 @@ class Expressions:
         """An expression as it stands: a place is one."""
         reader = getattr(self, f"_{type(node).__name__}", None)
         if reader is None:
-            raise refused(node, f"{type(node).__name__} isn't compiled")
+            name = type(node).__name__
+            raise refused(node, f"{UNKNOWN.get(name, name)} isn't compiled")
         found: Expr = reader(node)
         return found
 
@@ -115,6 +119,8 @@ class Expressions:
                 raise refused(node, "a character of one byte is due")
             return Number(kinds.INT, place, text[0])
         found = LITERAL.match(node.value)
+        if "'" in node.value:
+            raise refused(node, "a character of one byte is due")
         if not found:
             raise refused(node, f"{node.value} isn't compiled: numbers are integers of 32 bits")
         digits, suffix = found[1], found[2].lower()
@@ -170,7 +176,10 @@ class Expressions:
         return tree.Made(it.type, it.place, Variable("made", it.type, True), [(0, it.type, it)])
 
     def _ArrayRef(self, node: Any) -> Expr:
-        return self._pointed(node, self._sum(node, "+", self.value(node.name), self.value(node.subscript)))
+        one, other = self.value(node.name), self.value(node.subscript)
+        if not isinstance(one.type, Pointer) and not isinstance(other.type, Pointer):
+            raise refused(node, f"[] wants an array or an address, and not {one.type}")
+        return self._pointed(node, self._sum(node, "+", one, other))
 
     def _pointed(self, node: Any, it: Expr) -> Expr:
         """What lies at an address."""
@@ -369,10 +378,12 @@ class Expressions:
         """The type of one value or another."""
         if isinstance(one.type, Int) and isinstance(other.type, Int):
             return kinds.common(one.type, other.type)
-        if isinstance(one.type, Pointer) and (fits(one.type, other.type) or tree.is_zero(other)):
-            return other.type if isinstance(other.type, Pointer) and isinstance(other.type.to, kinds.Void) else one.type
-        if isinstance(other.type, Pointer) and (fits(other.type, one.type) or tree.is_zero(one)):
-            return other.type
+        for zero in (is_null, tree.is_zero):
+            for it, beside in ((one, other), (other, one)):
+                if isinstance(it.type, Pointer) and zero(beside):
+                    return it.type
+        if isinstance(one.type, Pointer) and isinstance(other.type, Pointer) and fits(one.type, other.type):
+            return other.type if isinstance(other.type.to, kinds.Void) else one.type
         if one.type is other.type or isinstance(one.type, kinds.Void):
             return one.type
         if isinstance(other.type, kinds.Void):
@@ -474,6 +485,11 @@ def fits(to: Pointer, of: Type) -> bool:
     return isinstance(to.to, kinds.Void) or isinstance(of.to, kinds.Void) or kinds.agree(to.to, of.to)
 
 
+def is_null(it: Expr) -> bool:
+    """Whether it is 0, or that as an address of anything."""
+    return tree.is_zero(it) and not (isinstance(it.type, Pointer) and not isinstance(it.type.to, kinds.Void))
+
+
 ESCAPE = re.compile(rb"\\([0-7]{1,3}|x[0-9a-fA-F]+|.)", re.S)
 ESCAPES = {b"n": 10, b"t": 9, b"r": 13, b"0": 0, b"a": 7, b"b": 8, b"f": 12, b"v": 11, b"e": 27}
 
@@ -487,7 +503,7 @@ def string_of(node: Any) -> bytes:
 
     def escaped(found: "re.Match[bytes]") -> bytes:
         its = found[1]
-        if its[:1] == b"x" or its[:1].isdigit():
+        if its[:1] in b"01234567" or its[:1] == b"x" and its[1:]:
             value = int(its[1:], 16) if its[:1] == b"x" else int(its, 8)
             if value > 255:
                 raise refused(node, f"{found[0].decode()} is no byte")

@@ -206,6 +206,8 @@ class Improver:
     def _folded(self, it: Step) -> Optional[Value]:
         """The value that a step gives, where there is one already."""
         a, b = it.a, it.b
+        if it.op in ("shl", "shr", "sar") and isinstance(b, int) and b > 31:
+            return 0  # (it isn't reached: the limit in front of it doesn't hold)
         if isinstance(a, int) and (b is None or isinstance(b, int)):
             return compute(it.op, a, b or 0)
         if it.op in COMMUTES and (not isinstance(a, Reg) and isinstance(b, Reg) or isinstance(a, int)):

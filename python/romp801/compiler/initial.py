@@ -20,12 +20,13 @@ class Initial:
     def __init__(self, reads: Expressions, its: Type, node: Any) -> None:
         self.reads = reads
         self.stores: list[Store] = []
-        self.count = 0
+        self.count, self.named = 0, False
         self._whole(its, node, 0)
         self.type = Array(its.of, self.count) if isinstance(its, Array) and its.count is None else its
 
     def _whole(self, its: Type, node: Any, at: int) -> None:
         """An object gets a value, or a list of values."""
+        self._anew(its, at)
         if type(node).__name__ == "InitList":
             items = list(node.exprs)
             if is_text(its, items[0]) if len(items) == 1 else False:
@@ -72,10 +73,9 @@ class Initial:
             return None
         return its.fields[index].offset, its.fields[index].type
 
-    def _members(self, its: Type, items: list[Any], at: int, outer: Optional[Any]) -> None:
-        """Elements or members one after another; within the list of another object they take what they have room
-        for."""
-        index = 0
+    def _members(self, its: Type, items: list[Any], at: int, outer: Optional[Any], index: int = 0) -> None:
+        """Elements or members one after another, from an index on; within the list of another object they take what
+        they have room for."""
         while items:
             item = items[0]
             if type(item).__name__ == "NamedInitializer":
@@ -93,45 +93,42 @@ class Initial:
             index += 1
 
     def _named(self, its: Type, item: Any, at: int, items: list[Any]) -> int:
-        """An element or a member that is named; what comes behind it in its object is told."""
-        next_index = 0
-        for depth, name in enumerate(item.name):
-            index = self._index(its, name, item)
-            if isinstance(its, Record) and isinstance(index, tuple):
-                at, its, index = at + index[0], index[1], index[2]
-            else:
-                assert isinstance(index, int)
-                if isinstance(its, Record):
-                    at, its = at + its.fields[index].offset, its.fields[index].type
-                else:
-                    found = self._element(its, index, item)
-                    if found is None:
-                        raise refused(item, f"{its} has no element {index}")
-                    at, its = at + found[0], found[1]
-            next_index = index + 1 if depth == 0 else next_index
-        if len(item.name) > 1 and items and type(items[0]).__name__ != "NamedInitializer":
-            raise refused(items[0], "behind a name of several parts each value has to be named")
+        """An element or a member that is named; what comes behind it goes on from there. Returns the index behind it in
+        the object at hand."""
+        self.named = True
+        around: list[tuple[Type, int, int]] = []
+        for name in item.name:
+            for index in self._indexes(its, name, item):
+                around.append((its, at, index + 1))
+                found = its.fields[index][1:] if isinstance(its, Record) else self._element(its, index, item)
+                if found is None:
+                    raise refused(item, f"{its} has no element {index}")
+                at, its = at + found[0], found[1]
         self._take(its, [item.expr], at)
-        return next_index
+        for its, at, index in around[:0:-1]:
+            self._members(its, items, at, None, index)
+        return around[0][2]
 
-    def _index(self, its: Type, name: Any, item: Any) -> int | tuple[int, Type, int]:
-        """The index that a name means; of a member of a member without a name also where that is."""
-        if isinstance(its, Record):
-            if type(name).__name__ == "ID":
-                for index, field in enumerate(its.fields):
-                    if field.name == name.name:
-                        return index if its.word == "struct" else (field.offset, field.type, len(its.fields))
-                    if field.name is None and isinstance(field.type, Record) and field.type.find(name.name):
-                        inner = field.type.find(name.name)
-                        assert inner is not None
-                        return field.offset + inner.offset, inner.type, index
-                raise refused(item, f"{its} has no member {name.name}")
-        elif isinstance(its, Array) and type(name).__name__ != "ID" or isinstance(its, Array):
+    def _indexes(self, its: Type, name: Any, item: Any) -> list[int]:
+        """The index that a name means; more than one where the member is in members without names."""
+        if isinstance(its, Record) and type(name).__name__ == "ID":
+            for index, field in enumerate(its.fields):
+                if field.name == name.name:
+                    return [index]
+                if field.name is None and isinstance(field.type, Record) and field.type.find(name.name):
+                    return [index, *self._indexes(field.type, name, item)]
+            raise refused(item, f"{its} has no member {name.name}")
+        if isinstance(its, Array):
             index = self.reads.constant(name)
             if index < 0:
                 raise refused(item, f"{its} has no element {index}")
-            return index
+            return [index]
         raise refused(item, f"{its} has no such part")
+
+    def _anew(self, its: Type, at: int) -> None:
+        """What an object was given before goes, where it is given a value again."""
+        if self.named:
+            self.stores = [it for it in self.stores if not at <= it[0] <= it[0] + it[1].size <= at + its.size]
 
     def _take(self, its: Type, items: list[Any], at: int) -> None:
         """An element gets what comes next."""
@@ -141,6 +138,7 @@ class Initial:
             self._whole(its, item, at)
         elif isinstance(its, Record) and self.reads.value(item).type is its:
             items.pop(0)
+            self._anew(its, at)
             self._store(its, item, at)
         else:
             self._members(its, items, at, None)

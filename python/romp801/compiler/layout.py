@@ -53,8 +53,9 @@ class Layout:
         if library:
             parts.append(library)
         depth = self.whole.depth()
-        if self.at + (depth if depth is not None else LEAST_STACK) > TOP:
-            need = f"the {depth}" if depth is not None else f"the least, {LEAST_STACK},"
+        least = max(LEAST_STACK, self.whole.frames[main])
+        if self.at + (depth if depth is not None else least) > TOP:
+            need = f"the {depth}" if depth is not None else f"the least, {least},"
             raise TooLarge(
                 self.whole.bodies[main].place,
                 f"{main.name} has {self.at} bytes, and with {need} of its stack it passes {TOP}",

@@ -393,8 +393,8 @@ class Lowering:
 
     def fill(self, to: Memory, its: Type, stores: list[tuple[int, Type, Expr]]) -> None:
         """An object gets its first values, and zeros where none is told."""
-        told = sum(one.size for _, one, _ in stores)
-        if isinstance(its, (Record, Array)) and told < its.size:
+        told = {byte for at, one, _ in stores for byte in range(at, at + one.size)}
+        if isinstance(its, (Record, Array)) and len(told) < its.size:
             self._zero(to, its)
         for at, one, value in stores:
             if isinstance(one, Record):

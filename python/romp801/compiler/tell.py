@@ -1,5 +1,5 @@
-"""What is told of a source beside its programs: its records as tools/show reads them, and a file of C with which it runs
-elsewhere."""
+"""What is told of a source beside its programs: its records as tools/show reads them, and a file of C with which it
+runs elsewhere."""
 from __future__ import annotations
 
 from typing import Iterator
@@ -8,7 +8,7 @@ from romp801.compiler import kinds
 from romp801.compiler.code import Code
 from romp801.compiler.faults import Refused
 from romp801.compiler.kinds import Array, Function, Int, Pointer, Record, Type
-from romp801.compiler.unit import Known, Shared, Unit
+from romp801.compiler.unit import Known, Shared, Unit, functions_of
 
 HOST = """/* Made by tools/compile --host: runs programs in C on another machine, on lines of standard input as
    tools/work reads them. Compile it together with their files. */
@@ -135,7 +135,7 @@ def host(units: list[Unit], shared: Shared, functions: list[str]) -> str:
     for name in functions:
         code = next((it for unit in units for it in unit.things if isinstance(it, Code) and it.name == name), None)
         if code is None or not isinstance(code.type, Function):
-            raise Refused(None, f"no function {name} is defined")
+            raise Refused(None, f"no function {name} is defined; those that are: {functions_of(units)}")
         given = code.type.parameters or ()
         declared.append(f"{_written(code.type.result)} {name}({', '.join(map(_written, given)) or 'void'});")
         values = ", ".join(f"({_written(its)})v[{at}]" for at, its in enumerate(given))

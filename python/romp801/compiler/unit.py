@@ -1,7 +1,7 @@
 """A file of C: what it declares, and the functions and data that it has."""
 from __future__ import annotations
 
-from typing import Any, NamedTuple, Optional
+from typing import Any, Iterable, NamedTuple, Optional
 
 from romp801.compiler import kinds
 from romp801.compiler.code import Code, Data, Thing
@@ -69,6 +69,12 @@ class Shared:
         self.ends[window.segment] = at + its.size
         found = self.records[name] = Known(window.segment, window.register, at, its)
         return found
+
+
+def functions_of(units: Iterable[Unit]) -> str:
+    """The names of the functions that files define and that others may call."""
+    found = [it.name for unit in units for it in unit.things if isinstance(it, Code) and it.body is not None]
+    return ", ".join(found) or "none"
 
 
 class Unit(Outer):
@@ -222,6 +228,9 @@ class Unit(Outer):
         its = self.names.type_of(node.type)
         if node.name in self.shared.records:
             raise refused(node, f"{node.name} is a record, which has no definition")
+        if self.segment is not None and "static" not in (node.storage or []):
+            why = "so no other program would see it: write extern, or #pragma segment none in front of it"
+            raise refused(node, f"{node.name} stands behind #pragma segment without extern, {why}")
         data = self._data(node, its, "static" in (node.storage or []))
         self.names.put(node, node.name, data)
         self._fill(data, its, node)

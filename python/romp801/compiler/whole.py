@@ -15,7 +15,7 @@ from romp801.compiler.kinds import Function, Int, Record
 from romp801.compiler.registers import CHANGED, LINK, SCRATCH, Coloring, allocate
 from romp801.compiler.rows import Emitter, Line
 from romp801.compiler.settle import Settler
-from romp801.compiler.unit import Shared, Unit
+from romp801.compiler.unit import Shared, Unit, functions_of
 from romp801.errors import Failure
 
 class Finished(NamedTuple):
@@ -26,6 +26,8 @@ class Finished(NamedTuple):
     stack: Optional[int]
 
 
+LONGEST_NAME = 31
+"""Letters of a program's name, and of a label."""
 LONGEST = 100
 """Characters of a line of C that are shown."""
 
@@ -71,6 +73,8 @@ class Whole:
             for it in unit.things:
                 if isinstance(it, Code) and it.name == name and it.body is not None:
                     assert isinstance(it.type, Function)
+                    if len(name) > LONGEST_NAME or "$" in name:
+                        raise Refused(it.place, f"{name} is no program's name: {LONGEST_NAME} letters, digits and _ at most")
                     if len(it.type.parameters or ()) > 4:
                         raise Refused(it.place or it.body.place, f"{name} takes more than four values, as no begin has")
                     if isinstance(it.type.result, Record) or any(
@@ -78,7 +82,7 @@ class Whole:
                     ):
                         raise Refused(it.body.place, f"{name} takes or returns a struct, as no program does")
                     return it
-        raise Refused(None, f"no function {name} is defined")
+        raise Refused(None, f"no function {name} is defined; those that are: {functions_of(self.units)}")
 
     def _main(self) -> Code:
         """The function where it begins, as a thing of its own: its values are made those of its types."""
@@ -115,8 +119,9 @@ class Whole:
         for code in self.order:
             colors[code] = self._allocate(code)
         names = Labels(self, things, {op for it in self.order for op in _ops(self.bodies[it])})
+        emitters = {code: self._emitter(code, colors[code], names) for code in self.order}
         for code in self.order:
-            lines[code] = self._emit(code, colors[code], names)
+            lines[code] = self._emit(code, emitters[code], names)
         return self._write(things, lines, names)
 
     def _improve(self) -> None:
@@ -208,16 +213,19 @@ class Whole:
             self.clobbers[code] = mask & CHANGED
         return colors
 
-    def _emit(self, code: Code, colors: Coloring, names: Labels) -> list[Line]:
-        """The rows of a function."""
-        body = self.bodies[code]
+    def _emitter(self, code: Code, colors: Coloring, names: Labels) -> Emitter:
+        """What emits a function, whose frame is laid."""
+        body, main = self.bodies[code], code is self.main
+        found = Emitter(body, colors, lambda it: names.of(it, code.unit), names.routine, main, is_leaf(body))
+        found._lay()
+        self.frames[code] = found.frame
+        return found
+
+    def _emit(self, code: Code, emitter: Emitter, names: Labels) -> list[Line]:
+        """The rows of a function, where all frames are laid."""
         main = code is self.main
-        emitter = Emitter(body, colors, lambda it: names.of(it, code.unit), names.routine, main, is_leaf(body))
-        emitter._lay()
-        self.frames[code] = emitter.frame
-        wanted = main and any(self.frames.get(it) for it in self.order)
         limit = names.end if not self.exact and not main else ""
-        return emitter.run(limit, wanted)
+        return emitter.run(limit, main and any(self.frames.values()))
 
     def depth(self) -> Optional[int]:
         """The bytes of the deepest stack, where they are told."""
@@ -261,8 +269,9 @@ class Labels:
         self.end = self.free("stack_end")
 
     def free(self, wanted: str) -> str:
-        """A label that isn't taken, of at most 31 letters."""
-        found, number = wanted[:31], 1
+        """A label that isn't taken, and isn't too long."""
+        wanted = wanted.replace("$", "_")
+        found, number = wanted[:LONGEST_NAME], 1
         while found in self.taken:
             number += 1
             found = f"{wanted[:26]}_{number}"
