@@ -1,14 +1,14 @@
 #!/usr/bin/env python3
-"""Measures what tools/compile makes: the rows of ten kernels (bench/c/kernels.c), and those of five examples' programs in C
-(bench/c/examples.c) beside the assembler that stands in examples/. `bench/compiled.py [PROGRAM]` prints the tables of
-docs/SPEED.md; with `--against COMPILER` the rows of what another compiler makes of the kernels stand beside.
+"""Measures what tools/compile makes: the rows of ten kernels (bench/c/kernels.c), and those of five examples' programs
+in C (bench/c/examples.c) beside the assembler that stands in examples/. `bench/compiled.py [PROGRAM]` prints the tables
+of docs/SPEED.md; with `--against COMPILER` the rows of what another compiler makes of the kernels stand beside.
 """
 import argparse
 import pathlib
 import re
 import subprocess
 import sys
-from typing import Dict, List, Sequence
+from typing import List, Sequence
 
 TOP = pathlib.Path(__file__).resolve().parent.parent
 sys.path.insert(0, str(TOP / "python"))
@@ -26,8 +26,8 @@ def compiled(compiler: Sequence[str], *words: str) -> str:
 
 def ends(romp801: str, text: str) -> List[List[str]]:
     """The words of the lines that tell how activations ended."""
-    found = subprocess.run([romp801, "try"], input=text.encode("latin-1"), capture_output=True, check=True).stdout.decode()
-    return [line.split() for line in found.splitlines() if re.match("commit|check|victim|left", line)]
+    done = subprocess.run([romp801, "try"], input=text.encode("latin-1"), capture_output=True, check=True)
+    return [line.split() for line in done.stdout.decode().splitlines() if re.match("commit|check|victim|left", line)]
 
 
 def rows_of(romp801: str, compiler: Sequence[str], name: str) -> "tuple[int, str]":
@@ -63,21 +63,23 @@ def statements(body: Sequence[str]) -> int:
 
 def examples(romp801: str) -> None:
     """The table of the examples."""
-    print("| Example | rows that ran, of those that committed: assembler, C | ratio | rows in the text: assembler, C | ratio |")
+    ran = "rows that ran, of those that committed: assembler, C | ratio"
+    print(f"| Example | {ran} | rows in the text: assembler, C | ratio |")
     print("|---|---|---|---|---|")
     for name, defines in EXAMPLES.items():
         its = job.Job.read((TOP / f"examples/{name}.job").read_text("latin-1"))
         names = [it.name for it in its.programs]
-        text = compiled([str(TOP / "tools/compile")], str(TOP / "bench/c/examples.c"), *names, *(f"--define={it}" for it in defines))
+        given = [*names, *(f"--define={it}" for it in defines)]
+        text = compiled([str(TOP / "tools/compile")], str(TOP / "bench/c/examples.c"), *given)
         begins = [it for it in its.events if isinstance(it, job.Begin)]
         events = [line for at, it in enumerate(begins, 1) for line in (str(it), f"turn {at} 1000")]
         mine = job.Job.read(f"frames 4\n{text}schedule\nend\n")
         old, new = (ends(romp801, job.joined(front, events)) for front in (its.front, mine.front))
-        assert [it[:1] + it[6:] if it[0] == "commit" else it[:4] for it in old] == [
-            it[:1] + it[6:] if it[0] == "commit" else it[:4] for it in new], (name, old, new)
-        ran: Dict[bool, int] = {which: sum(int(it[5]) for it in one if it[0] == "commit") for which, one in ((False, old), (True, new))}
+        told = [[it[:1] + it[6:] if it[0] == "commit" else it[:4] for it in one] for one in (old, new)]
+        assert told[0] == told[1], (name, old, new)
+        ran = [sum(int(it[5]) for it in one if it[0] == "commit") for one in (old, new)]
         had = [sum(statements(it.body) for it in one.programs) for one in (its, mine)]
-        print(f"| {name} | {ran[False]}, {ran[True]} | {ran[True] / ran[False]:.2f} | {had[0]}, {had[1]} | {had[1] / had[0]:.2f} |")
+        print(f"| {name} | {ran[0]}, {ran[1]} | {ran[1] / ran[0]:.2f} | {had[0]}, {had[1]} | {had[1] / had[0]:.2f} |")
 
 
 def main() -> None:

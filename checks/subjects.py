@@ -204,6 +204,49 @@ class WorkLong(Work):
             it.expect(done.status == 0, f"the audit of {job}: {done.told()}")
 
 
+class Once(Subject):
+    """What is asked under names and a ticket, from Python: each is done once, and has one answer."""
+    name, calls, goes_on = "once", ("run", "ship"), True
+    commits = 4
+
+    def __init__(self) -> None:
+        self.told: Dict[str, str] = {}   # the end that was put for each
+
+    def prepare(self, it: Place) -> None:
+        it.new("store", 0)
+        it.put("programs", rig.FRONT.encode())
+        self.told = {}
+
+    def words(self, it: Place) -> List[str]:
+        return [str(rig.TOP / "checks/once"), it.file("store"), it.file("programs")]
+
+    def take(self, it: Place, done: rig.Done) -> None:
+        """Takes what a call put."""
+        for line in done.out.splitlines():
+            who, _, end = line.partition(" commit ")
+            was = self.told.setdefault(who, end)
+            it.expect(was == end, f"{who} was told as {was!r}, and then as {end!r}")
+
+    def behind(self, it: Place, done: rig.Done) -> None:
+        self.take(it, done)
+        number = it.whole("store")
+        told = [int(end.split()[0]) for end in self.told.values()]
+        it.expect(number is not None and max(told, default=0) <= number <= self.commits,
+                  f"told {told}, and the store has {number} of {self.commits}")
+
+    def again(self, it: Place) -> None:
+        for _ in range(2):
+            done = rig.call(self.words(it), environment={"ROMP801": it.program})
+            self.take(it, done)
+            number = it.whole("store")
+            it.expect(done.status == 0 and number == self.commits and len(self.told) == self.commits,
+                      f"called again: {done.told()}, the store has {number} of {self.commits}")
+        kept = sorted(os.listdir(it.file("store.ledger")))
+        it.expect(len(kept) == 2 and kept[0] == "log", f"what is left: {kept}")
+        size = os.path.getsize(it.file("store.ledger/log"))
+        it.expect(size < 10000 + 2 * (1 << 18), f"the log has {size} bytes")
+
+
 class CatchUp(Subject):
     """A standby that is behind: it is what it was or further on, and then as far as its store."""
     name, behind_at, goes_on = "catch-up", 1, True
@@ -541,6 +584,6 @@ class Renew(New):
 
 
 SUBJECTS: List[Type[Subject]] = [
-    Work, WorkOn, CatchUp, CatchUpNew, Move, Backup, Restore, AfterKill, Audit, Stat, Ends, Addresses,
+    Work, WorkOn, Once, CatchUp, CatchUpNew, Move, Backup, Restore, AfterKill, Audit, Stat, Ends, Addresses,
     Run, Follow, Show, Ship, New, New2, Renew]
 FOR_KILLS: List[Type[Subject]] = [*SUBJECTS, WorkLong]

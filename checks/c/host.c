@@ -6,9 +6,18 @@ static unsigned host_count;
 
 static int host_call(int number, int one, const void *two, int three)
 {
+#ifdef __powerpc__
+    register int found __asm__("r3") = one;
+    register int call __asm__("r0") = number;
+    register const void *second __asm__("r4") = two;
+    register int third __asm__("r5") = three;
+    __asm__ volatile("sc" : "+r"(found), "+r"(call) : "r"(second), "r"(third) : "memory", "cr0", "ctr");
+    return found;
+#else
     int found;
     __asm__ volatile("int $0x80" : "=a"(found) : "a"(number), "b"(one), "c"(two), "d"(three) : "memory");
     return found;
+#endif
 }
 
 void *memcpy(void *to, const void *from, unsigned size)
@@ -51,7 +60,10 @@ void give_up(void)
 
 #include HOST_SOURCE
 
-__attribute__((force_align_arg_pointer)) void _start(void)
+#ifndef __powerpc__
+__attribute__((force_align_arg_pointer))
+#endif
+void _start(void)
 {
     HOST_ENTRY(HOST_VALUES);
     commit();

@@ -12,6 +12,13 @@ TERM, READER, TABLE, KEYS, KEEPER, SLOTS, NODE, IMAGE, REPLICA = (
 PRIMARY = "            etcd.is_created(self.keys.primary, self.created),\n"
 HEAD = "            etcd.is_value(self.keys.head, head_of(batch.number, batch.sum)),\n"
 CONFIG = "            etcd.is_changed(CONFIG, batch.config),\n"
+FOUND_IN_TABLE = (
+    "            return self.seen.find(who) or found if found is None or isinstance(found, Late) else found\n"
+)
+SHIPPED = (
+    "        if not batch.is_shipped.result():\n"
+    '            raise Deposed(f"what was put behind {batch.number} isn\'t what `ship` prints")\n'
+)
 WRONG: Dict[str, List[Edit]] = {
     "unfenced": [(TERM, PRIMARY + HEAD + CONFIG, "")],
     "answers-early": [
@@ -21,7 +28,7 @@ WRONG: Dict[str, List[Edit]] = {
             "                self._settled(batch)\n                self._settle(batch)\n",
         )
     ],
-    "twice": [(TERM, "            return self.table.find(who) or self.seen.find(who)", "            return None")],
+    "twice": [(TERM, FOUND_IN_TABLE, "            return None\n")],
     "table-lost": [
         (
             TERM,
@@ -36,12 +43,13 @@ WRONG: Dict[str, List[Edit]] = {
             "            except EngineFault:\n                held = True\n",
         )
     ],
-    # (without the second half it is hidden: a node that is cut off goes by its own clock, and gives up before the engine
-    # does)
+    # (without the second half it is hidden: a node that is cut off goes by its own clock, and gives up before the
+    # engine does)
     "reads-unfenced": [
         (
             READER,
-            "        held, (head, item) = term.engine.look(\n            [etcd.is_created(term.keys.primary, term.created)], term.keys.head, CONFIG\n        )\n",
+            "        held, (head, item) = term.engine.look(\n"
+            "            [etcd.is_created(term.keys.primary, term.created)], term.keys.head, CONFIG\n        )\n",
             "        number, config = term.content.number, term.config\n",
         ),
         (
@@ -64,16 +72,19 @@ WRONG: Dict[str, List[Edit]] = {
     "lying-text": [
         (
             TERM,
-            '        text = program.refused(shipped, "ship").stdout.decode()\n',
-            '        text = program.refused(shipped, "ship").stdout.decode().replace("\\nline 1 0", "\\nline 1 1", 1)\n',
-        )
+            "        text = self.journal.text(self.work.file, self.number)\n",
+            "        text = self.journal.text(self.work.file, self.number)\n"
+            '        text = text and text.replace("\\nline 1 0", "\\nline 1 1", 1)\n',
+        ),
+        (TERM, SHIPPED, ""),
     ],
+    "text-unheld": [(TERM, SHIPPED, "")],
     "lying-steps": [
         (
             TERM,
             "        done = tuple(Done(it.more.who, message_of(it.request), end) for it, end in commits)\n",
-            "        done = tuple(Done(it.more.who, message_of(it.request), Commit(1, end.number, end.steps + (end.number == 50), end.out))"
-            " for it, end in commits)\n",
+            "        done = tuple(Done(it.more.who, message_of(it.request), "
+            "Commit(1, end.number, end.steps + (end.number == 50), end.out)) for it, end in commits)\n",
         )
     ],
     "lying-number": [
@@ -86,7 +97,8 @@ WRONG: Dict[str, List[Edit]] = {
     "slots-unasked": [
         (
             TERM,
-            "            elif not self.config.has(self.replica.name, it.more.guard):\n                ends.append((place, Elsewhere(0)))\n",
+            "            elif not self.config.has(self.replica.name, it.more.guard):\n"
+            "                ends.append((place, Elsewhere(0)))\n",
             "",
         )
     ],
@@ -95,7 +107,8 @@ WRONG: Dict[str, List[Edit]] = {
         (
             KEYS,
             '        served = all(self._slot(it) == Slot(store, it[1], it[2]) for it in guard.get("slots", ()))\n',
-            "        served = all((self._slot(it) or Slot('', 0, 0))[:3] == (store, it[1], it[2]) for it in guard.get(\"slots\", ()))\n",
+            "        served = all((self._slot(it) or Slot('', 0, 0))[:3] == (store, it[1], it[2]) "
+            'for it in guard.get("slots", ()))\n',
         )
     ],
     "outbox-unsettled": [(SLOTS, "        settle(self.slot)\n", "")],
@@ -103,7 +116,11 @@ WRONG: Dict[str, List[Edit]] = {
     "late-is-new": [
         (TABLE, "            return Late() if who.since < self.horizon else None", "            return None")
     ],
-    "old-is-new": [(TABLE, "        return Old() if who.place < held.first else None", "        return None")],
+    "old-is-new": [(TABLE, "            return Old()\n", "            return None\n")],
+    "anew-is-whole": [(TABLE, "max(who.since, self.horizon)", "who.since")],
+    "old-is-run": [
+        (TERM, FOUND_IN_TABLE, "            return found if isinstance(found, Ended) else self.seen.find(who)\n")
+    ],
     "old-copies": [
         (
             NODE,
@@ -115,8 +132,8 @@ WRONG: Dict[str, List[Edit]] = {
     "gave-up-again": [
         (
             TERM,
-            "            return self.table.find(who) or self.seen.find(who)",
-            "            return self.table.find(who)",
+            FOUND_IN_TABLE,
+            "            return found\n",
         )
     ],
     "reads-behind": [(READER, "        while term.content.number < number:", "        while False:")],
@@ -144,7 +161,43 @@ RIGHT: Dict[str, List[Edit]] = {
         (KEEPER, "        while term.why is None and self.node.lease == lease:", "        while term.why is None:")
     ],
 }
+SMALL: List[Edit] = [(TABLE, "KEPT = 100000", "KEPT = 60")]
+"""A table that forgets soon, so that a storm comes to it."""
+RIGHT["small"] = SMALL
 ALL = {**WRONG, **RIGHT}
+STORM: Dict[str, str] = {
+    "unfenced": "stop,cut",
+    "answers-early": "cut,primary",
+    "twice": "primary",
+    "table-lost": "primary",
+    "unknown-is-yes": "cut,leader",
+    "reads-unfenced": "old-reader",
+    "gives-up-unfenced": "old-reader",
+    "lying-text": "primary",
+    "lying-steps": "primary",
+    "lying-number": "primary",
+    "slots-unasked": "move",
+    "config-unfenced": "move",
+    "not-frozen": "move",
+    "outbox-unsettled": "move",
+    "primary-only": "late,cut",
+    "late-is-new": "primary",
+    "old-is-new": "primary",
+    "old-is-run": "primary",
+    "old-copies": "primary",
+    "gave-up-forgotten": "primary",
+    "gave-up-again": "primary",
+    "image-without-table": "all-nodes,primary",
+    "head-only": "stop,cut",
+    "clock-unasked": "stop,old-reader",
+    "small": "primary,cut",
+}
+"""In which weather checks/cluster_storm looks for each. The others can't be seen from outside in a storm:
+`reads-behind` shows what was so before anything that was told; `not-at-head` puts nothing, since the comparison holds
+it up; `text-unheld` tells what is so where the text is; for `anew-is-whole` a session has to be forgotten while its
+request is run; and for `sums-unlooked` and `file-written-over` the engine has to be put back to a backup, which takes told
+commits away."""
+FORGETS = ("late-is-new", "gave-up-forgotten")
 FOUND: Dict[str, str] = {
     "unfenced": "Told",
     "answers-early": "Told.test_behind",
@@ -154,6 +207,7 @@ FOUND: Dict[str, str] = {
     "reads-unfenced": "Reads.test_old_primary",
     "gives-up-unfenced": "Told.test_deposed",
     "lying-text": "Histories.test_audit",
+    "text-unheld": "Told.test_another_text",
     "lying-steps": "Histories.test_audit",
     "lying-number": "Told.test_behind",
     "slots-unasked": "Moves",
@@ -163,6 +217,8 @@ FOUND: Dict[str, str] = {
     "primary-only": "Told.test_late_copy",
     "late-is-new": "test_cluster.Tables",
     "old-is-new": "test_cluster.Tables",
+    "anew-is-whole": "test_cluster.Tables",
+    "old-is-run": "Once.test_answered",
     "old-copies": "Once.test_old_copies",
     "gave-up-forgotten": "Once.test_old_copies",
     "gave-up-again": "Once.test_gave_up",
@@ -175,9 +231,9 @@ FOUND: Dict[str, str] = {
 """Which tests of python/tests see each."""
 
 
-def broken(name: str, package: pathlib.Path) -> None:
-    """Makes a wrong body in a copy of the package romp801."""
-    for file, old, new in ALL.get(name, []):
+def broken(name: str, package: pathlib.Path, in_storm: bool = False) -> None:
+    """Makes a wrong body in a copy of the package romp801; for a storm with a table that it comes to."""
+    for file, old, new in [*ALL.get(name, []), *(SMALL if in_storm and name in FORGETS else [])]:
         path = package / "cluster" / file
         text = path.read_text("utf-8")
         if text.count(old) != 1:

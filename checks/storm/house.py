@@ -5,8 +5,10 @@ import contextlib
 import fcntl
 import os
 import pathlib
+import random
 import shutil
 import signal
+import socket
 import struct
 import subprocess
 import sys
@@ -21,6 +23,36 @@ TOP = pathlib.Path(__file__).resolve().parent.parent.parent
 SHUTDOWN, WITHOUT_LOG = 0x8004587D, 2
 """The call that ends a file system of ext4 as a power cut does: what isn't on the medium is gone."""
 DISK = 512 << 20
+
+
+PORTS = 80
+"""Ports that a house has."""
+
+
+def free_base() -> int:
+    """The first of so many ports that nobody has, below those that the system hands out by itself."""
+    for base in random.sample(range(20000, 31900, 100), 119):
+        if all(_is_free(base + it) for it in range(PORTS)):
+            return base
+    raise SystemExit("storm: no ports are free")
+
+
+def _is_free(port: int) -> bool:
+    """Whether nobody listens at a port, or is connected by it."""
+    with socket.socket() as asks:
+        try:
+            asks.bind(("127.0.0.1", port))
+        except OSError:
+            return False
+    return True
+
+
+def raise_as_own(pid: int) -> None:
+    """A session that was begun gets the weight that the scheduler gives this one's, where it weighs sessions."""
+    with contextlib.suppress(OSError):
+        said = pathlib.Path("/proc/self/autogroup").read_text().split()
+        if said:
+            pathlib.Path(f"/proc/{pid}/autogroup").write_text(said[-1])
 
 
 class Disk:
@@ -75,7 +107,7 @@ class House:
         self.package = self.folder / "copy/python/romp801"
         shutil.copytree(TOP / "python/romp801", self.package, ignore=shutil.ignore_patterns("__pycache__"))
         shutil.copytree(TOP / "tools", self.folder / "copy/tools")
-        broken.broken(name, self.package)
+        broken.broken(name, self.package, in_storm=True)
         self.tool = self.folder / "copy/tools/cluster"
         self.disks: Dict[int, Disk] = {}
         self.running: Dict[str, subprocess.Popen[bytes]] = {}
@@ -94,6 +126,7 @@ class House:
             self.running[name] = subprocess.Popen(
                 [str(it) for it in words], stdout=said, stderr=said, stdin=subprocess.DEVNULL, start_new_session=True
             )
+        raise_as_own(self.running[name].pid)
 
     def start_member(self, it: int, state: str = "new") -> None:
         """Begins a member. What others send to it goes over a proxy, so that it can be made deaf."""

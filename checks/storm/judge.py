@@ -62,6 +62,19 @@ class Recorder(threading.Thread):
                 return
             time.sleep(0.0 if some else 0.1)
 
+    def wait_for_head(self, seconds: float) -> None:
+        """Waits until all is read that the engine has now."""
+        end = time.monotonic() + seconds
+        for store in self.stores:
+            head: Optional[bytes] = None
+            while time.monotonic() < end and (head is None or int(head.split()[0]) > self.at[store]):
+                try:
+                    item = self.engine.get(f"/romp801/s/{store}/head".encode(), 2.0)
+                    head = item.value if item else None
+                except EngineFault:
+                    pass
+                time.sleep(0.05)
+
     def _some(self, store: str) -> bool:
         """Some entries of a store."""
         logs = f"/romp801/s/{store}/log/".encode()
@@ -92,18 +105,22 @@ class Judge:
         """Something isn't so."""
         self.faults.append(" ".join(map(str, words)))
 
-    def work(self, stores: List[str], slots: List[Any]) -> None:
-        """Judges each store, and the money."""
+    def work(self, stores: List[str], slots: Optional[List[Any]]) -> None:
+        """Judges each store, and the money; in the middle of a storm, where there are no slots, neither the money nor
+        the nodes' files, which are behind."""
         noted = collections.defaultdict(list)
         for it in self.load.noted:
             noted[it.store].append(it)
         for store in stores:
             rows, states = self._history(store)
+            if slots is not None:
+                self._nodes(store, states)
             self._once(store, rows, noted[store])
             self._times(store, noted[store], states)
             self.lasts[store] = states[-1]
             self._counters(store, states[-1])
-        self._money(stores, slots)
+        if slots is not None:
+            self._money(stores, slots)
 
     # the history
 
@@ -126,7 +143,6 @@ class Judge:
                     "history:", store, "an entry doesn't tell of each of its numbers", raw["first"], raw["last"]
                 )
             self._follow(raw["text"], states)
-        self._nodes(store, states)
         self._audit(store)
         return rows, states
 

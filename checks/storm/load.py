@@ -1,21 +1,24 @@
 """Clients of the storm: what each asked, when, and what it was told."""
 from __future__ import annotations
 
+import collections
 import random
 import threading
 import time
-from typing import Any, Callable, Dict, List, NamedTuple, Optional, Tuple
+from typing import Any, Callable, Deque, Dict, List, NamedTuple, Optional, Tuple
 
 from romp801 import Failure, Records, Transaction
 from romp801.cluster.client import Cluster, ClusterStore, Place, TooLate, Unanswered, guard_of
 from romp801.cluster.outbox import Outbox
 from romp801.errors import WRONG_USE
 from romp801.report import Commit, Ended
-from romp801.request import Apply, Request, Run, Word
+from romp801.request import Apply, Request, Run, Word, message_of
 
 SLOTS = 24
 """Slots, each with one account."""
 ACCOUNT = 256
+ENDS = 0.15
+"""How often a session ends behind a call, so that nothing comes behind what it asked last."""
 REGISTERS, REGISTER_SEGMENT = 6, 3
 WHOLE = (1 << 32) - 1
 COUNTER = Records.of("counter", "value u4", segment=3, start=2048, size=256, count=4)
@@ -58,11 +61,28 @@ class Operation(NamedTuple):
     result: Optional[int]
 
 
+class Sent(NamedTuple):
+    """A message as it was sent: to which store, and all that it has."""
+
+    store: str
+    message: Dict[str, Any]
+
+
+class Ticket(NamedTuple):
+    """A request that was done under a ticket, and what it was told."""
+
+    store: str
+    name: str
+    request: Request
+    told: Any
+
+
 class Load:
     """All clients."""
 
     def __init__(self, nodes: str, stores: List[str], seed: int) -> None:
         self.nodes, self.stores, self.seed = nodes, stores, seed
+        self.order = random.Random(f"{seed} sessions")
         self.over, self.calm = threading.Event(), threading.Event()
         self.calm.set()
         self.lock, self.busy = threading.Lock(), 0
@@ -70,6 +90,9 @@ class Load:
         self.shown: List[Shown] = []
         self.operations: List[Operation] = []
         self.faults: List[str] = []
+        self.sent: Deque[Sent] = collections.deque(maxlen=400)
+        self.refused: Deque[Sent] = collections.deque(maxlen=2000)
+        self.tickets: Deque[Ticket] = collections.deque(maxlen=200)
         self.counted: Dict[Tuple[str, int], List[int]] = {}
         self.times: List[float] = []
         self.values = 0
@@ -78,6 +101,13 @@ class Load:
     def cluster(self, patience: float = 4.0, seconds: Optional[float] = None, nodes: Optional[str] = None) -> Cluster:
         """A client."""
         return Cluster(nodes or self.nodes, None, self.seconds if seconds is None else seconds, patience)
+
+    def wait_calm(self, seconds: float) -> bool:
+        """Whether nobody has anything under way any more; `calm` is clear, so nobody begins."""
+        end = time.monotonic() + seconds
+        while self.busy and time.monotonic() < end:
+            time.sleep(0.02)
+        return not self.busy
 
     def start(self, count: int) -> List[threading.Thread]:
         """Begins clients."""
@@ -105,6 +135,8 @@ class Load:
                         self.count,
                         self.look,
                         self.once,
+                        self.again,
+                        self.copies,
                     )
                 )
                 work(cluster, order, place)
@@ -123,7 +155,7 @@ class Load:
         self, store: ClusterStore, requests: List[Request], guard: Dict[str, Any], name: Optional[str] = None
     ) -> List[Optional[Ended]]:
         """Asks, and notes what is told."""
-        begun = time.monotonic()
+        begun, moment = time.monotonic(), store.moment
         try:
             ends = store.tried(requests, name, guard)
         except (Unanswered, TooLate):
@@ -139,6 +171,10 @@ class Load:
             for who, it, end in zip(store.asked, requests, ends):
                 if end is not None:
                     self.noted.append(Noted(store.name, tuple(who), it, begun, told, end))
+                    message = {"store": store.name, "at": moment, **message_of(it), **guard, "who": who}
+                    (self.sent if end.word == "commit" else self.refused).append(Sent(store.name, message))
+            if self.order.random() < ENDS:
+                store.begin_session()
         return ends
 
     def by_keys(self, cluster: Cluster, keys: List[int], build: Callable[[List[Place]], List[Request]]) -> None:
@@ -249,9 +285,34 @@ class Load:
         again = self.ask(other.store(store.name), [request], {}, ticket)[0]
         other.close()
         told = [(it.number, it.out) if isinstance(it, Commit) else it for it in (first, again)]
-        if told[0] != told[1]:
-            with self.lock:
+        with self.lock:
+            self.tickets.append(Ticket(store.name, ticket, request, told[0]))
+            if told[0] != told[1]:
                 self.faults.append(f"once: {ticket} was told {first}, and then {again}")
+
+    def again(self, cluster: Cluster, order: random.Random, _: int) -> None:
+        """A ticket that was asked for long ago is asked for once more."""
+        with self.lock:
+            it = order.choice(self.tickets) if self.tickets else None
+        if it is None:
+            return
+        end = self.ask(cluster.store(it.store), [it.request], {}, it.name)[0]
+        told = (end.number, end.out) if isinstance(end, Commit) else end
+        if told != it.told:
+            with self.lock:
+                self.faults.append(f"once: {it.name} was told {it.told}, and then {told}")
+
+    def copies(self, cluster: Cluster, order: random.Random, _: int) -> None:
+        """Old copies of messages that were answered, some by having given up, arrive once more, at any node: it may
+        say what it likes, and does nothing."""
+        with self.lock:
+            some = [it for them in (self.sent, self.refused) for it in order.sample(them, min(len(them), 4))]
+        at = cluster.nodes.next()
+        for it in some:
+            try:
+                cluster.nodes.one(at, it.message)
+            except OSError:
+                return
 
     def look(self, cluster: Cluster, order: random.Random, _: int = 0, within: Optional[str] = None) -> None:
         """All accounts at one moment."""
@@ -270,8 +331,11 @@ class Load:
         cluster = self.cluster()
         box = NotedOutbox(self, cluster)
         while not until():
+            self.calm.wait()
             is_last = self.over.is_set() and not any(it.is_alive() for it in threads)
             box.handed, box.kills = 0, 0.0 if is_last else 0.2
+            with self.lock:
+                self.busy += 1
             try:
                 left = box.drain()
             except (Failure, OSError) as failure:
@@ -282,6 +346,9 @@ class Load:
                 cluster = self.cluster()
                 box = NotedOutbox(self, cluster)
                 continue
+            finally:
+                with self.lock:
+                    self.busy -= 1
             if is_last and not left and not box.handed:
                 return
             time.sleep(0.05 if box.handed else 0.3)
@@ -301,3 +368,10 @@ class NotedOutbox(Outbox):
             raise Failure("who drained was killed")
         self.handed += len(requests)
         return self.load.ask(self.cluster.store(store), requests, guard)
+
+    def settle(self, slot: int) -> None:
+        """Hands on what lies there for a frozen slot, for as long as an answer may take."""
+        end = time.monotonic() + self.load.seconds
+        while self.drain(slot):
+            if time.monotonic() > end:
+                raise Failure(f"what lies in outboxes for slot {slot} isn't taken")

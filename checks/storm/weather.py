@@ -297,6 +297,7 @@ class Weather:
             box.settle(which)
             between()
 
+        end = time.monotonic() + 2 * self.load.seconds
         for attempt in range(20):
             try:
                 move.load = self.load
@@ -306,6 +307,8 @@ class Weather:
             except (Failure, OSError) as failure:
                 last = str(failure)
                 time.sleep(0.5)
+            if time.monotonic() > end:
+                break
         self.faults.append(f"move: slot {slot} to {store}: {last}")
 
     def finish_moves(self) -> None:
@@ -318,9 +321,7 @@ class Weather:
         """A primary that is cut off is asked what it has, while another goes on."""
         house, load = self.house, self.load
         load.calm.clear()
-        end = time.monotonic() + 10
-        while load.busy and time.monotonic() < end:
-            time.sleep(0.02)
+        load.wait_calm(10)
         others = ",".join(house.at(it) for it in (1, 2, 3) if it != first)
         reader, writer = load.cluster(1.0, 0.7, house.at(first)), load.cluster(4.0, 10.0, others)
         try:
