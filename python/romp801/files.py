@@ -259,8 +259,12 @@ def hold_folder(path: str) -> int:
     try:
         make_folder(path)
         folder = os.open(path, os.O_RDONLY | os.O_DIRECTORY | os.O_CLOEXEC)
-        fcntl.flock(folder, fcntl.LOCK_EX | fcntl.LOCK_NB)
-        os.fsync(folder)
+        try:
+            fcntl.flock(folder, fcntl.LOCK_EX | fcntl.LOCK_NB)
+            os.fsync(folder)
+        except BaseException:
+            os.close(folder)
+            raise
         return folder
     except BlockingIOError as error:
         raise Failure(f"another call works with the folder {path}") from error
