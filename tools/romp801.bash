@@ -86,7 +86,7 @@ _romp801_script() {
         values='--wait'
         ;;
     serve | romp801-serve)
-        options='--help --mode --folder --keep --ship --wait --program'
+        options='--help --mode --folder --keep --ship --log --wait --program'
         values='--ship --wait'
         ;;
     show | romp801-show)

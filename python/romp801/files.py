@@ -60,7 +60,7 @@ def is_folder(path: str) -> bool:
     return found is not None and stat.S_ISDIR(found.st_mode)
 
 
-def _behind_links(path: str) -> str:
+def behind_links(path: str) -> str:
     """The name of what a name's links lead to, which needn't be there."""
     for _ in range(LINKS):
         found = look(path, through=False)
@@ -259,8 +259,12 @@ def hold_folder(path: str) -> int:
     try:
         make_folder(path)
         folder = os.open(path, os.O_RDONLY | os.O_DIRECTORY | os.O_CLOEXEC)
-        fcntl.flock(folder, fcntl.LOCK_EX | fcntl.LOCK_NB)
-        os.fsync(folder)
+        try:
+            fcntl.flock(folder, fcntl.LOCK_EX | fcntl.LOCK_NB)
+            os.fsync(folder)
+        except BaseException:
+            os.close(folder)
+            raise
         return folder
     except BlockingIOError as error:
         raise Failure(f"another call works with the folder {path}") from error
@@ -332,7 +336,7 @@ def write_whole(path: str, data: bytes, like: Optional[str] = None) -> None:
     may the owner, of the file `like`.
     """
     try:
-        path = _behind_links(path)
+        path = behind_links(path)
         folder, name = os.path.split(path)
         beside = os.path.join(folder, f".{name}{BESIDE}")
         file = _open_beside(beside, 0o600 if like else 0o666)

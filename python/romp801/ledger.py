@@ -19,6 +19,8 @@ The records of the log are, each as often as it comes:
         a job about to be run: what comes after the front, the keys of its requests, and which of them compare
     {"over": [[PLACE, LINE], ..], "number": N, "ran": B}
         the job is over: how its requests ended, the store's number, and whether it was run at all
+    {"away": B}
+        whether the store is away from here on, so that this log is the store (romp801.by_log)
 
 A log that has become long is written anew with a copy: what was answered is its first record then, and the jobs before
 the copy are in no need any more. Until the new one has the old one's name the old one stands, with its own copy.
@@ -26,7 +28,7 @@ the copy are in no need any more. Until the new one has the old one's name the o
 from __future__ import annotations
 
 import os
-from typing import Any, Iterable, Optional
+from typing import Any, Callable, Iterable, Optional
 
 from romp801 import files, prints, program
 from romp801.answers import Answers, Key, ended, text_of
@@ -37,7 +39,7 @@ from romp801.log import Log
 from romp801.program import Ahead
 from romp801.progress import sum_of
 from romp801.report import Ended, Finish, Report, line_of
-from romp801.request import Apply, Asked, Front, Request, Take, is_conflict, is_final, run_job
+from romp801.request import Apply, Asked, Front, Request, Take, Told, is_conflict, is_final, run_job
 
 COPY_AFTER = 128
 """Jobs between two copies of the store, at most."""
@@ -50,6 +52,10 @@ OPENING = "opening."
 def asked_as(key: Key, request: Request) -> Asked:
     """A request under its key."""
     return Asked(text_of(key), request, key)
+
+
+class Away(Failure):
+    """The store is away, so its log is opened as one (romp801.by_log)."""
 
 
 class Ledger(Log):
@@ -74,6 +80,7 @@ class Ledger(Log):
         self.copies, self.sum, self.number = 0, "", 0
         self.begun = self.copied = 0  # the bytes of the log when it was begun, and at the last copy
         self.was_cut = False  # whether a job behind the copy was cut off: run again it would go on
+        self.is_away = False  # whether the store is away (romp801.by_log)
         self.jobs: list[str] = []
         self.job: Optional[dict[str, Any]] = None
         self.pending: list[dict[str, Any]] = []
@@ -98,6 +105,8 @@ class Ledger(Log):
                 self.jobs.pop()
             self._note_ends((place, ended(line)) for place, line in record["over"])
             self.job = None
+        elif "away" in record:
+            self.is_away = record["away"]
 
     def _note_ends(self, ends: Iterable[tuple[int, Ended]]) -> None:
         """Requests of the last job ended, by their places in it."""
@@ -110,21 +119,32 @@ class Ledger(Log):
         """Takes the folder, and settles what an earlier process left; answers what that was, in words."""
         self.held = files.hold_folder(self.folder)
         try:
-            return self._load()
+            return self.load()
         except BaseException:
             self.close()
             raise
 
-    def _load(self) -> str:
+    def load(self) -> str:
         """Reads what the folder has, and settles it."""
-        said = ""
-        self._clear()
-        if self.read_log():
-            said = self._settle()
-        else:
-            self.begin_log({"ledger": 2, **self.answers.raw()})
+        said = self.settle() if self.begin() else ""
         self.copy()
         return said
+
+    def begin(self) -> bool:
+        """Reads the log, or begins one; answers whether there was one."""
+        self._clear()
+        if self.read_log():
+            return True
+        self.begin_log({"ledger": 2, **self.answers.raw()})
+        return False
+
+    @property
+    def place(self) -> str:
+        """Where the store's bytes are."""
+        return self.store
+
+    def bring_home(self) -> None:
+        """The store gets its name back, where it is away."""
 
     def close(self) -> None:
         """Lets go of the folder."""
@@ -140,8 +160,10 @@ class Ledger(Log):
         """The file of a copy."""
         return os.path.join(self.folder, f"{OPENING}{copies}")
 
-    def _settle(self) -> str:
+    def settle(self) -> str:
         """Finds what the last job came to, where that isn't noted."""
+        if self.is_away:
+            raise Away(f"{self.store} is away: its server had --log, and was killed")
         number = self.program.number(self.store, self.seconds)
         if self.job is None:
             if number == self.number:
@@ -161,18 +183,33 @@ class Ledger(Log):
                 f"{self.folder} to begin anew"
             )
         verdict = self._audit(text, told, opening)
-        compares = set(self.job["apply"])
-        ends = [it for it in Report.read(told).lines if isinstance(it, Ended) and is_final(it)]
-        ends = [it for it in ends if it.activation - 1 not in compares or not is_conflict(it)]
-        self._over([(it.activation - 1, it) for it in ends], number)
+        self._over(self._ends_of(told), number)
         return f"settled: the store is at {number}; {verdict}"
 
-    def _before(self) -> bytes:
-        """The store before the last job: the copy, and the jobs since it run again."""
+    def _ends_of(self, report: bytes) -> list[tuple[int, Ended]]:
+        """How requests of the last job ended by its report, each with its place in it: those that are answered."""
+        assert self.job is not None
+        compares = set(self.job["apply"])
+        ends = [it for it in Report.read(report).lines if isinstance(it, Ended) and is_final(it)]
+        return [(it.activation - 1, it) for it in ends if it.activation - 1 not in compares or not is_conflict(it)]
+
+    def came_to(self, told: Told) -> None:
+        """The last job came to this: its whole report, or a refusal."""
+        if told.status == program.JOB:
+            self._over([], self.number, ran=False)
+            return
+        self._over(self._ends_of(told.report), number_of(told.report))
+
+    def copied_store(self) -> bytes:
+        """The last copy of the store."""
         data = files.read_bytes(self._opening(self.copies))
         if sum_of(data) != self.sum:
             raise Failure(f"{self._opening(self.copies)} isn't the copy that was made: it was changed or spoiled")
-        with files.copy_of(data) as (store, keeps):
+        return data
+
+    def _before(self) -> bytes:
+        """The store before the last job: the copy, and the jobs since it run again."""
+        with files.copy_of(self.copied_store()) as (store, keeps):
             for text in self.jobs[:-1]:
                 with self.program.start("run", store, given=text.encode("latin-1"), keeps=keeps) as child:
                     _, errors = child.communicate()
@@ -190,18 +227,23 @@ class Ledger(Log):
             raise Failure(f"{self.store} isn't what the jobs in {self.folder} leave there: {verdict}")
         return verdict
 
+    def image_now(self) -> bytes:
+        """The store's bytes."""
+        with files.locked(self.store, self.seconds) as file:
+            return files.read_all(file, self.store)
+
     def copy(self) -> None:
         """Puts a copy of the store into the folder, from which the next jobs are counted, and begins the log anew where
         it is long."""
-        with files.locked(self.store, self.seconds) as file:
-            image = files.read_all(file, self.store)
+        image = self.image_now()
         number = files.sound(image, self.store).number
         before = self.copies
         files.write_whole(self._opening(before + 1), image)
         opening = {"opening": before + 1, "sum": sum_of(image), "number": number}
         front = {"front": self.front.text}
         if self.length > 2 * self.begun + self.growth:
-            self.begin_log({"ledger": 2, **self.answers.raw()}, front, opening)
+            away = [{"away": True}] if self.is_away else []
+            self.begin_log({"ledger": 2, **self.answers.raw()}, front, opening, *away)
             self.begun = self.length
         else:
             if self.kept_front != self.front.text:
@@ -225,9 +267,9 @@ class Ledger(Log):
         isn't run. Raises Failure where what came of them isn't known, or where the job can't be noted: then nothing of
         it was run."""
         if not self.length:
-            self._load()
+            self.load()
         elif self.job is not None:
-            self._settle()
+            self.settle()
         left = []
         for place, it in enumerate(asked):
             found = self.answers.find(it.more)
@@ -263,24 +305,27 @@ class Ledger(Log):
                     ends.append((place, end))
                 take(place, end)
 
-        told = run_job(self.ahead_of or self.program, self.store, text, hand, self.seconds)
-        if self.ahead_of is not None:
-            self.ahead_of.done(told.status == 0)
+        told = self.call(text, hand)
         if told.status == 0:
-            last = line_of(told.report.decode().splitlines()[-1])
-            assert isinstance(last, Finish)
-            self._over(ends, last.number)
+            self._over(ends, number_of(told.report))
             if self.keep is not None:
                 keep_job(self.keep, self.image, number, text, told.report)
             return
         if told.status == program.JOB:
             self._over([], number, ran=False)
             raise Failure(f"the job was refused: {told.errors.decode(errors='replace').strip()}", WRONG_USE)
-        self._settle()
+        self.settle()
         for place, it in enumerate(asked):
             found = self.answers.find(it.more)
             if not done[place] and isinstance(found, Ended):
                 take(place, found)
+
+    def call(self, text: bytes, hand: Callable[[Ended], None]) -> Told:
+        """Runs a job on the store."""
+        told = run_job(self.ahead_of or self.program, self.store, text, hand, self.seconds)
+        if self.ahead_of is not None:
+            self.ahead_of.done(told.status == 0)
+        return told
 
     def _over(self, ends: list[tuple[int, Ended]], number: int, ran: bool = True) -> None:
         """The job is over: that is noted with the next record."""
@@ -290,6 +335,13 @@ class Ledger(Log):
             self.jobs.pop()
         over = [[place, str(end)] for place, end in ends]
         self.pending.append({"over": over, "number": number, "ran": ran})
+
+
+def number_of(report: bytes) -> int:
+    """The number that a whole report ends with."""
+    last = line_of(report.decode().splitlines()[-1])
+    assert isinstance(last, Finish)
+    return last.number
 
 
 def keep_job(folder: str, opening: bytes, number: int, text: bytes, report: bytes) -> None:

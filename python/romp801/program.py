@@ -108,13 +108,13 @@ class Program:
                 [self.path, *line], stdin=text, stdout=output, stderr=subprocess.PIPE, pass_fds=tuple(keeps)
             )
 
-    def begin(self, *line: str) -> subprocess.Popen[bytes]:
+    def begin(self, *line: str, keeps: Sequence[int] = ()) -> subprocess.Popen[bytes]:
         """Starts the program with these words before its input is known. It opens no store before it has all of that,
-        and an input without an end is no job; so where whoever would give it ends instead, it does nothing."""
+        and an input without an end is no job; so where whoever would give it ends instead, it does nothing. `keeps`
+        are open files that it has too."""
         _look_at_words(line)
-        return subprocess.Popen(
-            [self.path, *line], stdin=subprocess.PIPE, stdout=subprocess.PIPE, stderr=subprocess.PIPE
-        )
+        pipe = subprocess.PIPE
+        return subprocess.Popen([self.path, *line], stdin=pipe, stdout=pipe, stderr=pipe, pass_fds=tuple(keeps))
 
     def call(
         self, *line: str, given: bytes = b"", seconds: Optional[float] = 0.0, keeps: Sequence[int] = ()

@@ -50,7 +50,8 @@ class Worker(Gatherer):
         super().__init__(ledger)
         self.server, self.ship = server, ship
         self.lock = threading.Lock()
-        self.follower = Follower(ledger.store, ledger.seconds)
+        self.ledger = ledger
+        self.follower = Follower(ledger.place, ledger.seconds)
         self.due = self.follower.number
 
     def told(self, asked: Asked, end: Ended) -> None:
@@ -86,6 +87,7 @@ class Worker(Gatherer):
         self.keep_up()
         if self.server.is_behind:
             with self.lock:
+                self.follower.path = self.ledger.place
                 self.follower.read()
             self.server.is_fresh()
         if self.ship is not None and subprocess.run(self.ship, shell=True, stdin=subprocess.DEVNULL).returncode:

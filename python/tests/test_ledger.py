@@ -49,7 +49,7 @@ class Calls:
         self.patches = contextlib.ExitStack()
 
     def __enter__(self) -> Calls:
-        for name in ("open", "write", "fsync", "fdatasync", "ftruncate", "lseek", "replace", "remove"):
+        for name in ("open", "write", "fsync", "fdatasync", "ftruncate", "lseek", "replace", "rename", "remove"):
             self.patches.enter_context(mock.patch(f"os.{name}", self.counted(getattr(os, name))))
         return self
 

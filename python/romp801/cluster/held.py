@@ -39,9 +39,8 @@ class Held:
     # jobs: the process of the next one is begun while one runs, and is there when its text is
 
     def _begin(self) -> subprocess.Popen[bytes]:
-        """Begins a process for a job: it waits for its text, and opens the store when it has all of it."""
-        pipe, words = subprocess.PIPE, [self.program.path, "run", self.path]
-        return subprocess.Popen(words, stdin=pipe, stdout=pipe, stderr=pipe, pass_fds=[self.file])
+        """Begins a process for a job."""
+        return self.program.begin("run", self.path, keeps=[self.file])
 
     def prepare(self) -> None:
         """Begins the process of the next job, where it can."""
