@@ -1,15 +1,12 @@
 -- A command that has what it needs ends well, by what it did.
-use Rattle.console.proofs.Common.{◌≡◌, ◌⊎◌, ◌+◌, ◌*◌, ◌<◌, ◌≤◌, get_or, ℕ, List, [], ◌∷◌, length, map, refl, sym, ◌∙◌, ap, subst, arith, inl, inr, ⊎_elim, Status, most_lines, Given, call, Global, PageSize, Two, Four, Command, IsForm, Says, new_word, word_of, codes, Bool, true, false, slice_index, Option, Some, None, IsSome, String, string_bytes, unwrap_or, All, slice_get, Ghosts, ◌==◌, nat_tests, numbers_of}
+use Rattle.console.proofs.Common.{◌≡◌, ◌⊎◌, ◌+◌, ◌*◌, ◌<◌, ◌≤◌, get_or, ℕ, List, [], ◌∷◌, length, map, refl, sym, ◌∙◌, ap, subst, arith, inl, inr, ⊎_elim, Status, most_lines, Given, call, Global, PageSize, Two, Four, Command, IsForm, Says, new_word, word_of, codes, Bool, true, false, slice_index, Option, Some, None, IsSome, String, string_bytes, unwrap_or, All, slice_get, Ghosts, ◌==◌, nat_tests, numbers_of, IsOfShip, ShippedFrom, IsNotOne, IsOfRenew, Renewed, FollowedBy, IsNoText, IsOfFollow, OnStore}
 use Rattle.std.proofs.lemmas.Option.{slice_get_cases}
 use Rattle.call_status.proofs.TextLemmas.{read_whole, too_much}
 use Rattle.outside.specs.Causes.{Rose}
 use Rattle.outside.specs.Runs.{held_of}
-use Rattle.store_calls.specs.Renewed.{IsNotOne, IsOfRenew, Renewed}
 use Rattle.store.specs.KeptStore.{store_number}
 use Rattle.standby.specs.State.{IsFirstLong, due}
 use Rattle.standby.specs.Text.{ShipContent, IsContent, ShipLine, ship_text}
-use Rattle.standby.specs.FollowCalled.{FollowedBy, IsNoText, IsOfFollow, OnStore}
-use Rattle.standby.specs.ShipCalled.{IsOfShip, ShippedFrom}
 use Rattle.call_status.specs.Opening.{IsFaultAt, IsStanding}
 use Rattle.console.specs.Causes.{CanFollow, CanShip, HasAll, HasOldStore, IsComplete}
 use Rattle.call_status.specs.declared.status.Status.TheVariants as status

@@ -1,5 +1,4 @@
-use Rattle.console.proofs.Common.{◌≡◌, ◌⊎◌, List, [], inl, inr, subst, sym, Called, call, given, Status, TracedFrom, Command, IsForm, Made, Ended}
-use Rattle.desk.specs.Answers.{order_told}
+use Rattle.console.proofs.Common.{◌≡◌, ◌⊎◌, List, [], inl, inr, subst, sym, Called, call, given, Status, TracedFrom, Command, IsForm, Made, Ended, order_told}
 use Rattle.desk.specs.declared.answers.Committed.{Committed}
 use Rattle.console.specs.Did.{Does}
 use Rattle.console.proofs.PromiseLemmas.{follow_ends, needs, one_form, renewal_ends, ship_ends}
