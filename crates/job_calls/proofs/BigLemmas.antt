@@ -1,13 +1,10 @@
 -- A load on the store that a disk stands for.
-use Rattle.job_calls.proofs.Common.{◌≡◌, ℕ, ◌<◌, ◌≤◌, ⊎_elim, true, false, List, [], ◌∷◌, ◌++◌, length, refl, sym, ◌∙◌, ap, subst, arith, append-nil, append_assoc, Option, Ghosts, Failed, AreTold, Prints, IsSure, Elapses, CallsDisk, FewerLater, OpensWell, held_of, elapses-trans, FlatStore, Activation, Event, begun, is_commit, commit_lines, serial_lines, IsSerial, Desk, DiskWord, ReportLine, printed, spaced, faulted, Header, total, IsSessionOpened, activity, order_of, SessionState, ghosts, IsLasting, RunsQuietly, TallyTells, is_rollback, is_shut, out_after, InDoubt, PrintedNow, to_later, Job, Status, HasBigRun, IsToldBy, Loaded, LoadedBy, RanBig, big_line, last_out, line_for, Called, call, RunsFrom, IsStanding, TellsStore, StillTold, codes, decimal, All, Bool, Some, Result, Ok, Err, IsSome, IsTrue, count_by, HoldsStore, FailsOnlyCounted, span, Opening, run_end, lines_of, opening_of, fixed_of, OnErr, Rose, GoesBy, going_of, WentThrough}
+use Rattle.job_calls.proofs.Common.{◌≡◌, ℕ, ◌<◌, ◌≤◌, ⊎_elim, true, false, List, [], ◌∷◌, ◌++◌, length, refl, sym, ◌∙◌, ap, subst, arith, append-nil, append_assoc, Option, Ghosts, Failed, AreTold, Prints, IsSure, Elapses, CallsDisk, FewerLater, OpensWell, held_of, elapses-trans, FlatStore, Activation, Event, begun, is_commit, commit_lines, serial_lines, IsSerial, Desk, DiskWord, ReportLine, printed, spaced, faulted, Header, total, IsSessionOpened, activity, order_of, SessionState, ghosts, IsLasting, RunsQuietly, TallyTells, is_rollback, is_shut, out_after, InDoubt, PrintedNow, to_later, Job, Status, HasBigRun, IsToldBy, Loaded, LoadedBy, RanBig, big_line, last_out, line_for, Called, call, RunsFrom, IsStanding, TellsStore, StillTold, codes, decimal, All, Bool, Some, Result, Ok, Err, IsSome, IsTrue, count_by, HoldsStore, FailsOnlyCounted, span, Opening, run_end, lines_of, opening_of, fixed_of, OnErr, Rose, GoesBy, going_of, WentThrough, FaultsBy, PrintsBytes, PutsTimes, IsBigJob, big_events}
 use Rattle.std.specs.List.{fold}
 use Rattle.std.specs.Option.{ForSome}
 use Rattle.hex.specs.Hex.{encode_lower}
 use Rattle.schedule_replay.specs.declared.quietly.Quiet.{Quiet}
-use Rattle.listing.specs.BytesPut.{PrintsBytes, PutsTimes}
-use Rattle.job_text.specs.Big.{IsBigJob, big_events}
 use Rattle.job_text.proofs.BigLemmas.{events_all}
-use Rattle.call_status.specs.Faults.{FaultsBy}
 use Rattle.call_status.specs.Printed.{put_of, PrintsBy}
 use Rattle.desk.specs.ReportLines as line
 use Rattle.schedule_replay.specs.declared.quietly.Quiet.TheVariants as quiet

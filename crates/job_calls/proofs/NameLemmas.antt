@@ -1,12 +1,9 @@
 -- The names and events of a job that is ready.
-use Rattle.job_calls.proofs.Common.{◌≡◌, ◌≢◌, ℕ, suc, ◌<◌, ◌≤◌, List, [], ◌∷◌, length, vec_len, refl, sym, ap, subst, arith, All, get_or, count_by-le-length, length-map, Ghosts, Fixed, order_told, HoldsStore, IsUnbroken, Event, IsEventAmong, IsName, IsAsked, Job, Program, SessionState, activity, fixed_of, ghosts, is_turn, begins_in}
+use Rattle.job_calls.proofs.Common.{◌≡◌, ◌≢◌, ℕ, suc, ◌<◌, List, [], ◌∷◌, length, refl, sym, ap, subst, arith, All, get_or, count_by-le-length, Ghosts, HoldsStore, IsUnbroken, Event, IsEventAmong, IsName, IsAsked, Job, Program, SessionState, activity, ghosts, is_turn, begins_in, MayBeAsked, IsNew}
 use Rattle.std.proofs.lemmas.Bool.Decides.{nat_tests}
 use Rattle.desk.specs.declared.event.Event.TheVariants.{Checkpoint, Crash}
-use Rattle.desk.specs.declared.answers.Committed.{Committed}
 use Rattle.desk_law.proofs.Unbroken.{unbroken_more}
 use Rattle.job_text.specs.Ready as ready
-use Rattle.schedule_replay.specs.Answered.{MayBeAsked}
-use Rattle.session.specs.Opened.{IsNew}
 use Rattle.job_text.proofs.BackLemmas.{name_no_feed}
 
 bytes-unbroken : (bytes : List ℕ) → All (λ byte. byte ≢ 10) bytes → IsUnbroken bytes

@@ -1,5 +1,5 @@
 -- What runs on the store that a disk stands for.
-use Rattle.job_calls.proofs.Common.{Result, Ok, Err, IsErr, IsSome, IsTrue, unwrap_or, Ghosts, Failed, Prints, Rose, Elapses, OpensWell, FewerLater, Leaves, held_of, elapses-trans, leaves_on, FlatStore, Activation, serial, header_of, most_lines, Standing, Stands, stands, Event, Desk, opened, DiskWord, Doubt, run, faulted, IsRunOf, ReportLine, line_text, Open, number_after, begun, IsSerial, IsSessionOpened, activity, session_desk, order_of, SessionState, ghosts, Replayed, PrintsEarlier, HasOpened, InDoubt, run_text, Reports, Replays, PrintedNow, to_since, Job, Status, status_of_replay, Called, Given, call, TellsStore, StillTold, FailsOnlyCounted, way_of, DidBy, JobHasRun, HasRunFrom, DoubtStands, Happened, HappenedTo, IsOfStart, RanJob, RunsFrom, put_by, names_of, job_desk, ◌≡◌, ◌⊎◌, ℕ, ◌+◌, ◌%◌, ◌^◌, inl, inr, Bool, true, false, List, [], ◌∷◌, ◌++◌, length, take, refl, sym, ◌∙◌, ap, subst, arith, append-nil, Option, Some, None, opening, span, Opening, Interval, run_end, lines_of, opening_of, report_of, report_lines_of, IfInDoubt, job_opening, fixed_of, TellsBy, ByOpening, PutJob, TellsJob}
+use Rattle.job_calls.proofs.Common.{Result, Ok, Err, IsErr, IsSome, IsTrue, unwrap_or, Ghosts, Failed, Prints, Rose, Elapses, OpensWell, FewerLater, Leaves, held_of, elapses-trans, leaves_on, FlatStore, Activation, serial, header_of, most_lines, Standing, Stands, stands, Event, Desk, opened, DiskWord, Doubt, run, faulted, IsRunOf, ReportLine, line_text, Open, number_after, begun, IsSerial, IsSessionOpened, activity, session_desk, order_of, SessionState, ghosts, Replayed, PrintsEarlier, HasOpened, InDoubt, run_text, Reports, Replays, PrintedNow, to_since, Job, Status, status_of_replay, Called, Given, call, TellsStore, StillTold, FailsOnlyCounted, way_of, DidBy, JobHasRun, HasRunFrom, DoubtStands, Happened, HappenedTo, IsOfStart, RanJob, RunsFrom, put_by, names_of, job_desk, ◌≡◌, ◌⊎◌, ℕ, ◌+◌, ◌%◌, ◌^◌, inl, inr, Bool, true, false, List, [], ◌∷◌, ◌++◌, length, take, refl, sym, ◌∙◌, ap, subst, arith, append-nil, Option, Some, None, opening, span, Opening, Interval, run_end, lines_of, opening_of, report_of, report_lines_of, IfInDoubt, job_opening, fixed_of, TellsBy, ByOpening, PutJob, TellsJob, told_since}
 use Rattle.std.proofs.lemmas.Bool.{cases_lt}
 use Rattle.outside.proofs.Prints.{prints_well, prints_broken}
 use Rattle.store.specs.KeptStore.{store_number}
@@ -12,7 +12,6 @@ use Rattle.session.specs.ShownLaws.{shown-told}
 use Rattle.schedule_replay.specs.LinesPut.{PutsTimes, shown_on}
 use Rattle.schedule_replay.specs.RanTo.{RanTo}
 use Rattle.schedule_replay.specs.RunAsks.{happened, RunAsks}
-use Rattle.schedule_replay.proofs.ReportLemmas.{told_since}
 use Rattle.schedule_replay.proofs.CountLemmas.{on_ok_as}
 use Rattle.job_text.specs.Grammar.{job_of, content_of}
 use Rattle.call_status.specs.SourceText.{IsWholeText}

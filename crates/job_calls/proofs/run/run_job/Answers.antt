@@ -1,8 +1,7 @@
 use Rattle.std.proofs.lemmas.Grind.{common_steps}
-use Rattle.job_calls.proofs.Common.{rules, ◌≡◌, ◌∙◌, ap, sym, ◌≤◌, subst, arith, length, get_or, All, List, ℕ, refl, Some, map, count_by-le-length, Ghosts, Fixed, order_told, Desk, IsUnbroken, Event, Job, SessionState, ghosts, is_turn, HasOpened, Replays, Replayed, call, Status, status_of_replay, OpensBy, HappenedTo, names_of, fixed_of, opening_of, span, order_of, TellsBy}
+use Rattle.job_calls.proofs.Common.{rules, ◌≡◌, ◌∙◌, ap, sym, ◌≤◌, subst, arith, length, get_or, All, List, ℕ, refl, Some, map, count_by-le-length, Ghosts, Fixed, order_told, Desk, IsUnbroken, Event, Job, SessionState, ghosts, is_turn, HasOpened, Replays, Replayed, call, Status, status_of_replay, OpensBy, HappenedTo, names_of, fixed_of, opening_of, span, order_of, TellsBy, replays_so}
 use Rattle.arrayvec.specs.ArrayVec.{ArrayVec}
 use Rattle.job_calls.proofs.CauseLemmas.{opens-by, put-rose, put-same, disk-rose}
-use Rattle.schedule_replay.proofs.ReportLemmas.{replays_so}
 use Rattle.job_calls.proofs.NameLemmas.{name-unbroken, ready-to-run}
 use Rattle.job_calls.proofs.RunLemmas.{happened-by, has-opened, first_opening}
 use Rattle.job_calls.proofs.run.run_job.Goals as goal
