@@ -1,19 +1,9 @@
 -- The commit of a session is one of the desk, and what the disk holds in it.
-use Rattle.session.proofs.Common.{◌≡◌, ◌⊎◌, inl, inr, ⊎_elim, ℕ, ◌+◌, ◌%◌, ◌^◌, ◌<◌, ◌≤◌, List, [], ◌∷◌, ◌++◌, refl, sym, ◌∙◌, ap, arith, Option, Some, length-append, map-append, FlatStore, has, Plain, after, Ghosts, Rose, IsSure, Leaves, held_of, RecordLine, Stands, stands, one_more, laid, IsMoreBy, journal_in, journal_with, StoreView, store_number, with_begun, TracksStore, Committed, order_told, standing_of, Desk, Fine, Doubt, Unwritten, Over, ordered, WritesMore, number_after, committed_at, sitter, number_in, Activity, live_in, program_in, entry_in, store_over, desk_over, Live, KeepsDesk, rolled, tally_counts, commit_call, Tally, SessionState, IsSessionSound, activity, order_of, session_desk, IsOpenOver, HasCommitted, IsEitherSide, fine_desk, shows_begun, nat_tests, ◌==◌, not, filter, None, true, false, vec_len, vec_capacity, slice_set, IsEither, fewer}
+use Rattle.session.proofs.Lemmas.{◌≡◌, ◌⊎◌, inl, inr, ⊎_elim, ℕ, ◌+◌, ◌%◌, ◌^◌, ◌<◌, ◌≤◌, List, [], ◌∷◌, ◌++◌, refl, sym, ◌∙◌, ap, arith, Option, Some, length-append, map-append, FlatStore, has, Plain, after, Ghosts, Rose, IsSure, Leaves, held_of, RecordLine, Stands, stands, one_more, laid, IsMoreBy, journal_in, journal_with, StoreView, store_number, with_begun, TracksStore, Committed, order_told, standing_of, Desk, Fine, Doubt, Unwritten, Over, ordered, WritesMore, number_after, committed_at, sitter, number_in, Activity, live_in, program_in, entry_in, store_over, desk_over, Live, KeepsDesk, rolled, tally_counts, commit_call, Tally, SessionState, IsSessionSound, activity, order_of, session_desk, IsOpenOver, HasCommitted, IsEitherSide, fine_desk, shows_begun, nat_tests, ◌==◌, not, filter, None, true, false, vec_len, vec_capacity, slice_set, IsEither, fewer, subst, Since, own_header, commit_shown, Kept, roomy, Header, CommitsDeeds, KeptAsks, sound-same, stood-over}
 use Rattle.lines.proofs.SetLemmas.{has-filter}
 use Rattle.frame_pool.specs.declared.pool_model.Pool.{Pool}
-use Rattle.session.proofs.DesertedLemmas.{sound-same}
-use Rattle.session.proofs.DidLemmas.{stood-over}
 use Rattle.desk.specs.declared.answers.TurnEnd.TheVariants as end
-use Rattle.store_format.specs.Header.{Header}
-use Rattle.desk.specs.Asked.{own_header}
-use Rattle.std.proofs.Common.{subst}
 use Rattle.desk.specs.Instruction as turn
-use Rattle.outside.specs.Deeds.{Since}
-use Rattle.store.proofs.AskedLemmas.{commit_shown}
-use Rattle.store.specs.Committed.{roomy}
-use Rattle.store.specs.Exact.{CommitsDeeds, KeptAsks}
-use Rattle.store.specs.declared.keep.Kept.{Kept}
 use Rattle.store.specs.declared.keep.Kept.TheVariants as kept
 use Rattle.activations.specs.Follows as running
 

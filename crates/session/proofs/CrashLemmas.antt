@@ -1,13 +1,6 @@
 -- What a crash of a session did.
-use Rattle.activations.specs.Follows.{AlwaysHolds}
-use Rattle.session.proofs.Common.{Activity, ◌≡◌, inl, ℕ, List, [], refl, sym, ◌∙◌, ap, Option, true, unwrap_or, Ghosts, Rose, IsSure, OnlyAsks, held_of, Header, Faulty, bank_of, stands, chosen, StoreView, store_number, TracksStore, shown_stands, shown_store, journal_in, TookEvent, told_event, fixed_of, session_view, Desk, numbers, Fine, Failed, number_after, Step, Crashed, CrashFailed, shut, restarted, stepped, IsRestarted, SessionState, IsSessionSound, activity, session_desk, order_of, IsOpenOver, arith}
+use Rattle.session.proofs.Lemmas.{Activity, ◌≡◌, inl, ℕ, List, [], refl, sym, ◌∙◌, ap, Option, true, unwrap_or, Ghosts, Rose, IsSure, held_of, Header, Faulty, bank_of, stands, chosen, StoreView, store_number, TracksStore, shown_stands, shown_store, journal_in, TookEvent, told_event, fixed_of, session_view, Desk, numbers, Fine, Failed, number_after, Step, Crashed, CrashFailed, shut, restarted, stepped, IsRestarted, SessionState, IsSessionSound, activity, session_desk, order_of, IsOpenOver, arith, ◌∷◌, Deed, Did, DidSome, Synced, AsksSo, did_since, EventAsks, AlwaysHolds, asked-stands, did-fail, fine-sure, over-other}
 use Rattle.desk.specs.declared.event.Event.TheVariants as event
-use Rattle.desk.specs.Asked.{EventAsks}
-use Rattle.outside.proofs.DeedLemmas.{did_since}
-use Rattle.outside.specs.Deeds.{Deed, Did, DidSome, Synced}
-use Rattle.outside.specs.Runs.{AsksSo}
-use Rattle.std.proofs.Common.{◌∷◌}
-use Rattle.session.proofs.DidLemmas.{asked-stands, did-fail, fine-sure, over-other}
 
 -- a crash
 module _ {W : Type 0} (G : Ghosts W) {D : (before after : Option (List Deed)) → Type 0} (s : SessionState) (store : StoreView) (header : store.header ≡ s.store.header) (left : Activity) (holds : AlwaysHolds left) (sound : IsSessionSound s) (before after : W) (sure : IsSure G before) (over : IsOpenOver s (held_of G before)) (gone : IsRestarted (activity s) left over.committed) (asks : AsksSo G D before after) where

@@ -1,13 +1,6 @@
 -- What the turns and the checkpoints of a session did.
-use Rattle.session.proofs.Common.{Activity, ◌≡◌, inl, inr, ℕ, List, refl, sym, ◌∙◌, ap, subst, arith, true, false, Ghosts, Rose, IsSure, Leaves, OnlyAsks, held_of, Header, Stands, stands, StoreView, store_number, Shows, TurnEnd, counts_told, ending_told, turn_told, TookEvent, told_event, fixed_of, session_view, standing_of, Desk, Fine, Failed, Doubt, Counts, JournalAfter, journal_in, Happening, Step, Turned, CheckpointMade, CheckpointFailed, step, turned, shut, stepped, Tally, tally_counts, KeepsDesk, SessionState, IsSessionSound, activity, order_of, session_desk, number_after, IsOpenOver, ShowsDesk, Takes, TurnHasRun, IsTurned, Turn}
-use Rattle.desk.specs.Asked.{EventAsks, own_header}
-use Rattle.outside.proofs.DeedLemmas.{did_since, since_as}
+use Rattle.session.proofs.Common.{Activity, ◌≡◌, inl, inr, ℕ, List, refl, sym, ◌∙◌, ap, subst, arith, true, false, Ghosts, Rose, IsSure, Leaves, held_of, Header, Stands, stands, StoreView, store_number, Shows, TurnEnd, counts_told, ending_told, turn_told, TookEvent, told_event, fixed_of, session_view, standing_of, Desk, Fine, Failed, Doubt, Counts, JournalAfter, journal_in, Happening, Step, Turned, CheckpointMade, CheckpointFailed, step, turned, shut, stepped, Tally, tally_counts, KeepsDesk, SessionState, IsSessionSound, activity, order_of, session_desk, number_after, IsOpenOver, ShowsDesk, Takes, TurnHasRun, IsTurned, Turn, Deed, Did, DidSome, IsCut, Since, Option, AsksSo, did_since, since_as, EventAsks, own_header, checkpoint_shown, checkpoint_deeds}
 use Rattle.outside.proofs.Durable.{leaves_held}
-use Rattle.outside.specs.Deeds.{Deed, Did, DidSome, IsCut, Since}
-use Rattle.outside.specs.Runs.{AsksSo}
-use Rattle.std.specs.Prelude.{Option}
-use Rattle.store.proofs.AskedLemmas.{checkpoint_shown}
-use Rattle.store.specs.Exact.{checkpoint_deeds}
 use Rattle.store_format.specs.Asked.{checkpoint_asks}
 use Rattle.session.proofs.JournalLemmas.{checkpoint-empties}
 use Rattle.desk.specs.declared.event.Event.{Event}

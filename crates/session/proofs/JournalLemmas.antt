@@ -1,13 +1,11 @@
 -- The journal of the bytes that a store shows, and what a commit and a checkpoint make of it.
-use Rattle.session.proofs.Common.{◌≡◌, ℕ, ◌+◌, ◌%◌, ◌^◌, List, [], ◌∷◌, ◌++◌, length, refl, sym, ◌∙◌, ap, arith, Option, inl, inr, Bool, true, false, not, unwrap_or, ◌==◌, Holds, RecordLine, StoreView, Shows, shown_store, begun_of, Journal, journal_emptied, journal_in, journal_with, suc, zero, nat_tests, drop, slice_index, nat_lt, if◌then◌else◌, option_map, nil_from_length, entry_bytes, number_at, Area, Closed, Gate, Sound, Wrong, count_of, gate_at, record_bytes, HoldsRecords, HoldsCommitted, emptied, roomy, bytes_taken}
+use Rattle.session.proofs.Common.{◌≡◌, ℕ, ◌+◌, ◌%◌, ◌^◌, List, [], ◌∷◌, ◌++◌, length, refl, sym, ◌∙◌, ap, arith, inl, inr, Bool, true, false, not, ◌==◌, Holds, RecordLine, StoreView, Shows, shown_store, begun_of, Journal, journal_emptied, journal_in, journal_with, suc, zero, nat_tests, drop, slice_index, nat_lt, if◌then◌else◌, nil_from_length, number_at, Area, Closed, Gate, Sound, Wrong, count_of, gate_at, record_bytes, HoldsRecords, HoldsCommitted, emptied, roomy, bytes_taken, end_is, not_other, same_begun, BankView, area_end, needed_end, bank_number, bank_place, with_record}
 use Rattle.std.proofs.lemmas.List.Sums.{sum_by-append, sum_by-cons}
 use Rattle.lines.specs.declared.line_geometry.PageSize.{PageSize}
 use Rattle.store_format.specs.declared.header.Which.{Which}
 unfoldable use Rattle.store_format.specs.Bank.{holds_from}
 use Rattle.store_format.proofs.Walk.{closed_is, preceded_is, sound_is}
-use Rattle.store.specs.Kept.{BankView, area_end, end_of, needed_end, bank_number, bank_place, with_record}
 use Rattle.store.proofs.AppendLemmas.{length-lines_from}
-use Rattle.store.proofs.AskedLemmas.{end_is, not_other, same_begun}
 use Rattle.store.specs.Chosen.{other}
 
 -- the closed gate stands behind the records

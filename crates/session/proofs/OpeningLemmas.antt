@@ -1,22 +1,9 @@
 -- A session that has just opened.
-use Rattle.session.proofs.Common.{◌≡◌, ℕ, ◌+◌, ◌^◌, List, [], length, take, sym, ◌∙◌, ap, arith, Option, false, unwrap_or, byte_count, Ghosts, OnlyAsks, held_of, header_of, most_lines, Stands, stands, StoreView, store_number, Shows, TracksStore, order_told, opened, desk_over, Begins, SessionState, activity, session_desk}
-use Rattle.activations.specs.Activity.{Activity}
-use Rattle.activations.specs.Begins.{idle}
-use Rattle.activations.specs.Follows.{HasFrames}
-use Rattle.activations.specs.declared.live.Live.{Live}
-use Rattle.flat_machine.specs.declared.machine.Program.{Program}
-use Rattle.lines.specs.Directory.{Layout}
-use Rattle.outside.specs.Deeds.{Deed}
-use Rattle.outside.specs.Runs.{AsksSo}
+use Rattle.session.proofs.Common.{◌≡◌, ℕ, ◌+◌, ◌^◌, List, [], length, take, sym, ◌∙◌, ap, arith, Option, false, unwrap_or, byte_count, Ghosts, held_of, header_of, most_lines, Stands, stands, StoreView, store_number, Shows, TracksStore, order_told, opened, desk_over, Begins, SessionState, activity, session_desk, replicate, ◌<◌, ◌≤◌, Deed, vec_capacity, vec_len, AsksSo, Activity, HasFrames, Live, Program, idle, Layout, newcomer, sitter, HaveRoom, get_or-replicate}
 use Rattle.std.proofs.Math.Nat.{mod-mod}
 use Rattle.store.proofs.StoodLemmas.{committed_in, committed-long, stood-store}
-use Rattle.seats.specs.Seating.{newcomer, sitter}
 use Rattle.seats.specs.declared.seat.Seat.{Seat}
-use Rattle.std.proofs.Common.{replicate, ◌<◌, ◌≤◌}
-use Rattle.std.proofs.lemmas.List.{get_or-replicate}
-use Rattle.std.specs.Prelude.{vec_capacity, vec_len}
 use Rattle.session.specs.Opened.{HasStood, IsSessionOpened}
-use Rattle.session.specs.Session.{HaveRoom}
 
 pub has-stood : (held : List ℕ) (store : StoreView) → Shows held store → HasStood store.header held
 has-stood held store shows = grind (arith, shows.header.said, committed_in held store shows, stood-store held store shows)

@@ -1,11 +1,10 @@
 -- What holds of the desk that a session shows.
-use Rattle.session.proofs.Common.{FlatStore, Plain, after, Desk, Active, opened, run, over_all, seat-told, activity, session_desk, ShownIsConsistent, ShownIsIsolated, ◌≡◌, ℕ, List, [], sym, ◌∙◌, ap, subst, Option, Some, None}
+use Rattle.session.proofs.Common.{FlatStore, Plain, after, Desk, Active, opened, run, over_all, seat-told, activity, session_desk, ShownIsConsistent, ShownIsIsolated, ◌≡◌, ℕ, List, [], sym, ◌∙◌, ap, subst, Option, Some, None, entry_in, entries, store_over, state_in, shown as bytes_shown}
 use Rattle.desk_law.specs.Consistent.{IsAmong, IsConsistent}
 use Rattle.desk_law.specs.Current.{IsCurrent}
 use Rattle.desk_law.specs.Memory.{memory_after, opening_memory}
 use Rattle.desk_law.proofs.CurrentLaw.{one-list-is-current}
 use Rattle.desk_law.proofs.MemoryLaw.{runs-are-isolated}
-use Rattle.activations.specs.Activity.{entry_in, entries, store_over, state_in, shown as bytes_shown}
 
 pub consistent : ShownIsConsistent
 consistent s held desk shown =

@@ -1,10 +1,5 @@
 -- How a turn of a session ends: over what ran, and then its commit.
-use Rattle.session.proofs.Common.{Activity, arith, ap, sym, ◌∙◌, subst, inl, inr, ⊎_elim, has, Ghosts, Rose, IsSure, FewerLater, Leaves, OnlyAsks, held_of, leaves_on, Stands, stands, sure_on, Shows, TurnEnd, ending_told, HasNumbers, OnlyWrites, IsEitherOf, fine_step, standing_of, JournalAfter, journal_in, Turned, Desk, Active, DiskWord, Fine, ReadFailed, Doubt, Going, Over, no_counts, commits, turn, turn_of, turns, number_after, Step, turned, Reads, seat-told, told-found, stepped, number_in, seat_of, seat-found, Tally, entries, entry_in, desk_over, KeepsDesk, IsEndOfRows, IfWaits, HasEnded, tally_counts, IsAtCommit, commit_call, turn_in, SessionState, IsSessionSound, activity, order_of, session_desk, IsOpenOver, HasCommitted, TurnHasRun, IsCommitEnd, fine_desk, ◌≡◌, refl, ℕ, ◌+◌, ◌-◌, ◌*◌, ◌<◌, ◌≤◌, ◌⊎◌, true, false, List, [], Option, Some, None, unwrap_or, IsStoreOf}
-use Rattle.desk.specs.Asked.{EventAsks}
-use Rattle.desk.specs.Run.{Happening}
-use Rattle.outside.specs.Deeds.{Deed, Since}
-use Rattle.outside.proofs.DeedLemmas.{since_none}
-use Rattle.session.proofs.DidLemmas.{asked-stands, over-other}
+use Rattle.session.proofs.Lemmas.{Activity, arith, ap, sym, ◌∙◌, subst, inl, inr, ⊎_elim, has, Ghosts, Rose, IsSure, FewerLater, Leaves, OnlyAsks, held_of, leaves_on, Stands, stands, sure_on, Shows, TurnEnd, ending_told, HasNumbers, OnlyWrites, IsEitherOf, fine_step, standing_of, JournalAfter, journal_in, Turned, Desk, Active, DiskWord, Fine, ReadFailed, Doubt, Going, Over, no_counts, commits, turn, turn_of, turns, number_after, Step, turned, Reads, seat-told, told-found, stepped, number_in, seat_of, seat-found, Tally, entries, entry_in, desk_over, KeepsDesk, IsEndOfRows, IfWaits, HasEnded, tally_counts, IsAtCommit, commit_call, turn_in, SessionState, IsSessionSound, activity, order_of, session_desk, IsOpenOver, HasCommitted, TurnHasRun, IsCommitEnd, fine_desk, ◌≡◌, refl, ℕ, ◌+◌, ◌-◌, ◌*◌, ◌<◌, ◌≤◌, ◌⊎◌, true, false, List, [], Option, Some, None, unwrap_or, IsStoreOf, Deed, Since, since_none, EventAsks, Happening, asked-stands, over-other}
 use Rattle.desk_law.proofs.Entries.{found-among}
 use Rattle.desk_law.proofs.InstructionStages.{reads-all}
 use Rattle.activations.specs.Serving.{ComesToEnd as IsOverTurn}

@@ -1,5 +1,4 @@
-use Rattle.session.specs.Below.{OfShown}
-use Rattle.session.proofs.Common.{◌≡◌, sym, subst, ◌∙◌, ap, Desk, SessionState, ShowsDesk, numbers, activity, numbers-told}
+use Rattle.session.proofs.Common.{◌≡◌, sym, subst, ◌∙◌, ap, Desk, SessionState, ShowsDesk, numbers, activity, numbers-told, OfShown}
 use Rattle.session.proofs.calls.SessionSupervisor.active.Goals as goal
 
 pub returns-clause-shown : goal.returns-clause-shown

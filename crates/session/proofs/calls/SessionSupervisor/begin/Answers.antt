@@ -1,7 +1,4 @@
-use Rattle.session.proofs.Common.{◌<◌, fixed_of, ShowsDesk}
-use Rattle.session.proofs.Lemmas.{common_steps, rules, arith, sym, subst, activity, session_told, SessionState, answered}
-use Rattle.session.specs.Below.{HasBegun}
-use Rattle.session.specs.Causes.{IsBeginAnswer}
+use Rattle.session.proofs.Lemmas.{common_steps, rules, arith, sym, subst, activity, session_told, SessionState, answered, ◌<◌, fixed_of, ShowsDesk, IsBeginAnswer, HasBegun}
 use Rattle.session.proofs.BeginLemmas.{session-begun, shown-begun, told-begun, with_activations}
 use Rattle.session.proofs.calls.SessionSupervisor.begin.Goals as goal
 

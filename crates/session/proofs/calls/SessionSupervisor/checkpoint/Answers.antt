@@ -1,8 +1,6 @@
-use Rattle.session.proofs.Common.{ShowsDesk}
-use Rattle.session.proofs.Lemmas.{common_steps, rules, arith, ◌≡◌, ap, ◌∙◌, sym, subst, true, Leaves, held_of, HoldsStore, TracksStore, stands, CheckpointMade, CheckpointFailed, BankView, SessionState, session_told, stored-sound, calls-store, did-checkpoint, did-fail-checkpoint, takes, refl}
+use Rattle.session.proofs.Lemmas.{common_steps, rules, arith, ◌≡◌, ap, ◌∙◌, sym, subst, true, Leaves, held_of, HoldsStore, TracksStore, stands, CheckpointMade, CheckpointFailed, BankView, SessionState, stored-sound, calls-store, did-checkpoint, did-fail-checkpoint, takes, refl, SessionCheckpoint}
 use Rattle.desk.specs.declared.answers.Stored.TheVariants.{Closed, Number}
 use Rattle.desk.specs.declared.event.Event.TheVariants as event
-use Rattle.session.specs.Causes.{SessionCheckpoint}
 use Rattle.session.proofs.calls.SessionSupervisor.checkpoint.Goals as goal
 
 pub returns-in-Ok : goal.returns-in-Ok

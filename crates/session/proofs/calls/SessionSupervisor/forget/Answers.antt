@@ -1,12 +1,8 @@
-use Rattle.outside.proofs.Runs.{opens_some}
-use Rattle.store_format.specs.Stands.{HasHeader}
-use Rattle.session.proofs.Common.{ShowsDesk}
-use Rattle.session.proofs.Lemmas.{common_steps, rules, arith, sym, Header, ◌≡◌, ◌∙◌, subst, true, held_of, reopened_holds, numbers, Crashed, CrashFailed, SessionState, session_told, deserted-sound, takes}
+use Rattle.session.proofs.Lemmas.{common_steps, rules, arith, sym, Header, ◌≡◌, ◌∙◌, subst, true, held_of, reopened_holds, numbers, Crashed, CrashFailed, SessionState, deserted-sound, takes, SessionCrash, opens_some, HasHeader}
 use Rattle.store.specs.declared.open_fault.ReopenFault.{ReopenFault}
 use Rattle.store.specs.Faults.{IsStoreReopenFault}
 use Rattle.desk.specs.declared.answers.Reopened.TheVariants.{Damaged, DiskFault, Number}
 use Rattle.desk.specs.declared.event.Event.TheVariants as event
-use Rattle.session.specs.Causes.{SessionCrash}
 use Rattle.session.proofs.CrashLemmas.{did-crash, did-fail-crash, number-restarted, undamaged}
 use Rattle.session.proofs.calls.SessionSupervisor.forget.Goals as goal
 

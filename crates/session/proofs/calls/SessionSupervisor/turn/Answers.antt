@@ -1,8 +1,4 @@
-use Rattle.std.proofs.Common.{arith, ◌↔◌, ◌<◌, ◌^◌, rules}
-use Rattle.session.proofs.Common.{HoldsStore, SessionState, ShowsDesk}
-use Rattle.session.proofs.Lemmas.{common_steps, ◌≡◌, ◌+◌, ℕ, ◌∙◌, None, activity, seat_of, true, false, ap, sym, subst, held_of, most_lines, store_number, IsTurnEnd, LeavesStore, FailsCounted, turn_fails, counts_told, turn_told, HasNumbers, Told, ToldAfterEnd, TurnEnd, session_told, number_after, IsOpenOver, Turn, calls-store, did-turn, takes}
-use Rattle.session.specs.Causes.{SessionTurn}
-use Rattle.desk.specs.Kept.{writes_due, WritesMore}
+use Rattle.session.proofs.Lemmas.{common_steps, ◌≡◌, ◌+◌, ℕ, ◌∙◌, None, activity, seat_of, true, false, ap, sym, subst, held_of, most_lines, store_number, IsTurnEnd, LeavesStore, FailsCounted, turn_fails, counts_told, turn_told, HasNumbers, Told, ToldAfterEnd, TurnEnd, session_told, number_after, IsOpenOver, Turn, calls-store, did-turn, takes, HoldsStore, SessionState, arith, ◌↔◌, ◌<◌, ◌^◌, rules, SessionTurn, writes_due, WritesMore}
 use Rattle.desk.specs.declared.answers.TurnEnd.TheVariants.{Idle}
 use Rattle.desk.specs.declared.event.Event.TheVariants as event
 use Rattle.session.proofs.calls.SessionSupervisor.turn.Goals as goal

@@ -1,11 +1,5 @@
-use Rattle.session.proofs.Common.{rules, held_of, byte_count, FlatStore, Header, most_lines, opened, Activity, Begins, activity, SessionState, length, false, ◌≡◌, refl, sym, ◌∙◌, ap, subst}
-use Rattle.std.specs.Prelude.{vec_len}
+use Rattle.session.proofs.Common.{rules, held_of, byte_count, FlatStore, Header, most_lines, opened, Activity, Begins, activity, SessionState, length, false, ◌≡◌, refl, sym, ◌∙◌, ap, subst, [], ◌∷◌, arith, Synced, vec_len, carries_err, asks_as, opens_some, common_steps}
 use Rattle.session.proofs.OpeningLemmas.{IsMade, made-opened, made-room, has-stood}
-use Rattle.std.proofs.Common.{[], ◌∷◌, arith}
-use Rattle.std.proofs.lemmas.Grind.{common_steps}
-use Rattle.outside.proofs.DeedLemmas.{carries_err}
-use Rattle.outside.proofs.Runs.{asks_as, opens_some}
-use Rattle.outside.specs.Deeds.{Synced}
 use Rattle.session.proofs.session.Session.open.Given as given
 use Rattle.session.proofs.session.Session.open.Goals as goal
 

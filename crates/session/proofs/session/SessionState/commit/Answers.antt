@@ -1,7 +1,5 @@
-use Rattle.session.proofs.Lemmas.{common_steps, rules, ◌≡◌, ◌+◌, ◌-◌, Fixed, session_told, ◌%◌, ◌^◌, ◌∙◌, ◌∷◌, [], length, refl, sym, ap, subst, arith, Some, length-append, true, false, has, Commit, row, begun_of, Kept, StoreView, store_number, TracksStore, held_of, over_all, committed_at, sitter, number_in, taken-below, Activity, live_in, program_in, entry_in, store_over, desk_over, shown, KeepsDesk, rolled, reprinted, SessionState, activity, with_record, HoldsStore, Header, stored-sound, closes-now}
-use Rattle.flat_machine.specs.After.{after as after_rows}
+use Rattle.session.proofs.Lemmas.{common_steps, rules, ◌≡◌, ◌+◌, ◌-◌, Fixed, session_told, ◌%◌, ◌^◌, ◌∙◌, ◌∷◌, [], length, refl, sym, ap, subst, arith, Some, length-append, true, false, has, Commit, row, begun_of, Kept, StoreView, store_number, TracksStore, held_of, over_all, committed_at, sitter, number_in, taken-below, Activity, live_in, program_in, entry_in, store_over, desk_over, shown, KeepsDesk, rolled, reprinted, SessionState, activity, with_record, HoldsStore, Header, stored-sound, closes-now, roomy, number_by_answer, IsKeptAfter, after as after_rows}
 use Rattle.store.specs.declared.keep.Kept.TheVariants.{Done, Unwritten, Doubt}
-use Rattle.store.specs.Committed.{roomy, number_by_answer, IsKeptAfter}
 use Rattle.session.proofs.JournalLemmas.{commit-adds}
 use Rattle.session.proofs.CommitLemmas.{asked-so, order-more, writes-more, gone, has_place, sound-left, sound-closed, out-is, tracked, went-done, went-doubt, went-unwritten}
 use Rattle.session.proofs.session.SessionState.commit.Goals as goal
