@@ -1,6 +1,5 @@
 -- What depends on sets of lines as sets alone: pages taken out, grants, and how many lines are written.
-use Rattle.desk_law.proofs.Common.{◌≡◌, refl, ℕ, ◌&&◌, not, if◌then◌else◌, Bool, false, List, [], ◌∷◌, ◌++◌, filter, ap, ◌∙◌, has, size, Lines, within_page, is_whole_page, lines_of_page, pages_of, has-append, size-alike, Grant, InFlight, grant_by, fine_grant_by, given_by_locks, with_each, granted, to_read, lowered_pages, lowered, AreAlike, nat_tests, arith}
-use Rattle.desk_law.proofs.EachPage.{each-same}
+use Rattle.desk_law.proofs.Lemmas.{◌≡◌, refl, ℕ, ◌&&◌, not, if◌then◌else◌, Bool, false, List, [], ◌∷◌, ◌++◌, filter, ap, ◌∙◌, has, size, Lines, within_page, is_whole_page, lines_of_page, pages_of, has-append, size-alike, Grant, InFlight, grant_by, fine_grant_by, given_by_locks, with_each, granted, to_read, lowered_pages, lowered, AreAlike, nat_tests, arith, each-same}
 
 pub filter-same : (p q : ℕ → Bool) (xs : List ℕ) → ((x : ℕ) → p x ≡ q x) → filter p xs ≡ filter q xs
 filter-same p q [] same = refl

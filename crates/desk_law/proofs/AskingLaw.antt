@@ -1,7 +1,6 @@
 -- The desk that asks where it is refused does what the desk does.
-use Rattle.desk_law.proofs.Common.{◌≡◌, refl, ℕ, zero, suc, ◌+◌, ◌==◌, not, if◌then◌else◌, List, [], ◌∷◌, ◌++◌, length, find, Some, arith, ap, sym, subst, and_parts, Plain, after, Program, Event, Turn, Desk, Active, opened, DiskWord, Counts, Turning, Going, Over, attempts, refused_pages, conflicts_of, instruction, turns, step, IsAmong, IsConsistent, IsOrderly, Memory, after_event, after_turns, opening_memory, IsMemory, FindTheirOwn, nat_tests, Turned, Committed, Machine, next_attempt, counts_refused, happening_lines, number_after, Step, asks_for, asks_refused, attempts_by, step_by, event_before, run_by, InstructionsAskAlike, IsRunOfDesk, RunsAskAlike, RunsStayConsistentBy, RunsAreIsolatedBy, SideBySideIsSerialBy, CommitsTellTheMachineBy, ReportLine}
+use Rattle.desk_law.proofs.Lemmas.{◌≡◌, refl, ℕ, zero, suc, ◌+◌, ◌==◌, not, if◌then◌else◌, List, [], ◌∷◌, ◌++◌, length, find, Some, arith, ap, sym, subst, and_parts, Plain, after, Program, Event, Turn, Desk, Active, opened, DiskWord, Counts, Turning, Going, Over, attempts, refused_pages, conflicts_of, instruction, turns, step, IsAmong, IsConsistent, IsOrderly, Memory, after_event, after_turns, opening_memory, IsMemory, FindTheirOwn, nat_tests, Turned, Committed, Machine, next_attempt, counts_refused, happening_lines, number_after, Step, asks_for, asks_refused, attempts_by, step_by, event_before, run_by, InstructionsAskAlike, IsRunOfDesk, RunsAskAlike, RunsStayConsistentBy, RunsAreIsolatedBy, SideBySideIsSerialBy, CommitsTellTheMachineBy, ReportLine, orderly, among-found}
 unfoldable use Rattle.desk_law.specs.Asking.{asked_instruction, turns_by}
-use Rattle.desk_law.proofs.Entries.{orderly, among-found}
 use Rattle.desk_law.proofs.TurnsStay.{Stays, resident-consistent, stays-instruction}
 use Rattle.desk_law.proofs.ConsistentLaw.{stays-consistent, runs-consistent}
 use Rattle.desk_law.proofs.MemoryLaw.{runs-are-isolated, commit-told, side_by_side_is_serial}

@@ -1,12 +1,9 @@
 -- What an attempt over the bytes of all says of the entry's own row, and what follows where its lines were there.
-use Rattle.desk_law.proofs.Common.{◌≡◌, refl, ℕ, ◌+◌, List, length, Option, Some, arith, ap, sym, ◌∙◌, subst, Layout, ArePart, Plain, Program, Outcome, On, row, touched, after, SameWay, row-way, Desk, Active, with_active, wanted, requested, DiskWord, Fine, Counts, Going, Over, instruction, AreLinesThere, over_all, gone_on, IsAmong, due_to, IsCurrent, IsOrderly, nat_tests}
-use Rattle.desk_law.proofs.Entries.{replaced, found-among}
+use Rattle.desk_law.proofs.Lemmas.{◌≡◌, refl, ℕ, ◌+◌, List, length, Option, Some, arith, ap, sym, ◌∙◌, subst, Layout, ArePart, Plain, Program, Outcome, On, row, touched, after, SameWay, row-way, Desk, Active, with_active, wanted, requested, DiskWord, Fine, Counts, Going, Over, instruction, AreLinesThere, over_all, gone_on, IsAmong, due_to, IsCurrent, IsOrderly, nat_tests, replaced, found-among, held-free, after-row}
 use Rattle.desk_law.proofs.LinesThere.{there-held}
-use Rattle.desk_law.proofs.Permitted.{held-free}
 use Rattle.desk_law.proofs.RowsThere.{open-row}
 use Rattle.desk_law.proofs.SharedBytes.{RunsOn, row-on-current, lines-of}
 use Rattle.desk_law.proofs.TurnsStay.{Stays, stays-instruction}
-use Rattle.desk_law.proofs.Others.{after-row}
 
 -- a row over the bytes of all that goes on is one of the entry's own, which touches the same lines
 pub record IsOwnRow (program : Program) (directory : Layout) (now : Plain) (bytes : List ℕ) : Type 0 where

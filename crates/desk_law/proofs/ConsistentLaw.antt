@@ -1,6 +1,5 @@
 -- A consistent desk stays so.
-use Rattle.desk_law.proofs.Common.{◌≡◌, refl, ℕ, ◌+◌, ◌<◌, ◌==◌, true, List, [], ◌∷◌, length, find, Option, Some, None, slice_get, arith, eqb-true, eq-eqb, both_ways, page_count, Program, Event, Begin, Turn, Checkpoint, Crash, Desk, Active, DiskWord, Failed, Counts, Turning, Going, instruction, turns, turn, no_counts, turned, begin_if, restarted, event_of, step, run, IsAmong, NumbersAscend, IsConsistent, turn_desk, StaysConsistent, IsActive, IdleWhereInactive, RunsStayConsistent, IsOrderly, nat_tests}
-use Rattle.desk_law.proofs.Entries.{orderly, among-found, none-found, found-among}
+use Rattle.desk_law.proofs.Lemmas.{◌≡◌, refl, ℕ, ◌+◌, ◌<◌, ◌==◌, true, List, [], ◌∷◌, length, find, Option, Some, None, slice_get, arith, eqb-true, eq-eqb, both_ways, page_count, Program, Event, Begin, Turn, Checkpoint, Crash, Desk, Active, DiskWord, Failed, Counts, Turning, Going, instruction, turns, turn, no_counts, turned, begin_if, restarted, event_of, step, run, IsAmong, NumbersAscend, IsConsistent, turn_desk, StaysConsistent, IsActive, IdleWhereInactive, RunsStayConsistent, IsOrderly, nat_tests, orderly, among-found, none-found, found-among}
 use Rattle.desk_law.proofs.Endings.{begins-consistent, refused-consistent, quiet-consistent, opened-consistent}
 use Rattle.desk_law.proofs.TurnsStay.{Stays, stays-turns, stays-instruction}
 use Rattle.desk_law.proofs.ResidentPages.{none-resident}

@@ -1,11 +1,5 @@
 -- A contest round by round: a loop that looks for one cycle at a time goes through the same desks as the definition.
-use Rattle.desk_law.proofs.Common.{◌≡◌, refl, ℕ, zero, suc, ◌≤◌, ◌<◌, ◌==◌, not, Bool, true, false, List, [], ◌∷◌, ◌++◌, length, find, Option, Some, None, arith, shown_cycle, victim_of, Desk, Active, with_active, rolled_back, numbers, waits_for, DiskWord, Counts, InFlight, Contested, Settled, Lost, breaks_cycle, breaks_cycles, contest_ends, asks, IsAmong, contest, IsUnderWay, IsOrderly, nat_tests}
-use Rattle.desk_law.proofs.Contest.{contending, settled, rolled-contending, gone-consistent, freed-keeps, stays-settled, stays-lost, filter-shorter, some-active, shown-victim, shown-none, left_over}
-use Rattle.desk_law.proofs.Entries.{among-found, none-found, new-among}
-use Rattle.desk_law.proofs.GoesOn.{length-replaced, marked-contending}
-use Rattle.desk_law.proofs.Waiting.{number-of, has-number}
-use Rattle.desk_law.proofs.Walks.{walk-short}
-use Rattle.desk_law.proofs.Others.{among-others, others-among}
+use Rattle.desk_law.proofs.Lemmas.{◌≡◌, refl, ℕ, zero, suc, ◌≤◌, ◌<◌, ◌==◌, not, Bool, true, false, List, [], ◌∷◌, ◌++◌, length, find, Option, Some, None, arith, shown_cycle, victim_of, Desk, Active, with_active, rolled_back, numbers, waits_for, DiskWord, Counts, InFlight, Contested, Settled, Lost, breaks_cycle, breaks_cycles, contest_ends, asks, IsAmong, contest, IsUnderWay, IsOrderly, nat_tests, contending, settled, rolled-contending, gone-consistent, freed-keeps, stays-settled, stays-lost, filter-shorter, some-active, shown-victim, shown-none, left_over, among-found, none-found, new-among, length-replaced, marked-contending, number-of, has-number, walk-short, among-others, others-among}
 
 -- the counts with one cycle more
 abbrev pub with_cycle : Counts → List ℕ → Counts

@@ -1,11 +1,7 @@
 -- The laws of the bytes as they are now.
-use Rattle.desk_law.proofs.Common.{◌≡◌, ℕ, ◌+◌, if◌then◌else◌, Bool, [], ◌++◌, Some, arith, has, size, Plain, On, row, after, flat_line, Desk, Active, with_active, wanted, conflicts_of, IsWholeStore, gone_on, IsAmong, AreConsistent, current, current_bytes, touched_of, nat_tests}
+use Rattle.desk_law.proofs.Lemmas.{◌≡◌, ℕ, ◌+◌, if◌then◌else◌, Bool, [], ◌++◌, Some, arith, has, size, Plain, On, row, after, flat_line, Desk, Active, with_active, wanted, conflicts_of, IsWholeStore, gone_on, IsAmong, AreConsistent, current, current_bytes, touched_of, nat_tests, replaced, another-same, after-row, gone-on-active, bytes-current, one-current}
 use Rattle.desk_law.specs.CurrentLaws.{OneListIsCurrent, HoldersSeeCurrent, RowsChangeTheirLines, RowsRunOnCurrent, CommitsChangeNoLine, RollbacksGiveBack, CommitsLeaveOthers}
-use Rattle.desk_law.proofs.Entries.{replaced}
-use Rattle.desk_law.proofs.Others.{another-same, after-row}
-use Rattle.desk_law.proofs.GoesOn.{gone-on-active}
 use Rattle.desk_law.proofs.CurrentLines.{current-held, row-writes, row-leaves, commit-current, rollback-written, rollback-others}
-use Rattle.desk_law.proofs.CurrentBytes.{bytes-current, one-current}
 use Rattle.desk_law.proofs.SharedBytes.{RunsOn, row-on-current}
 
 -- a row of an entry, whose mark may be another one than it has

@@ -1,9 +1,5 @@
 -- What an entry's row, its commit and its rollback do to the lines as they are now.
-use Rattle.desk_law.proofs.Common.{◌≡◌, refl, ℕ, ◌+◌, ◌==◌, ◌||◌, ◌⊎◌, Bool, true, false, List, [], ◌∷◌, length, find, Option, Some, None, option_map_or, arith, ap, sym, ◌∙◌, inl, inr, eqb-true, both_ways, or_right, cases_Bool, false_from_ne_true, Layout, byte_count, FlatStore, IsWholeStore, has, Lines, has-append, has_right, Plain, Program, On, plan_at, row, touched, after, touched_next, flat_line, AgreeBut, all_of, DoesTheSame, after-whole, after-kept, on, lines_of_plan, row-steps, Active, gone_on, committed_by, IsAmong, due_to, AreConsistent, writer, current_of, touched_of, nat_tests}
-use Rattle.desk_law.proofs.Entries.{among-found, none-found, among-replaced, replaced-among, new-among, replaced, one-entry}
-use Rattle.desk_law.proofs.Others.{others, another-same, commit-leaves, rollback-leaves, among-others, others-among}
-use Rattle.desk_law.proofs.GoesOn.{apart-turned}
-use Rattle.desk_law.proofs.LeftLemmas.{went}
+use Rattle.desk_law.proofs.Lemmas.{◌≡◌, refl, ℕ, ◌+◌, ◌==◌, ◌||◌, ◌⊎◌, Bool, true, false, List, [], ◌∷◌, length, find, Option, Some, None, option_map_or, arith, ap, sym, ◌∙◌, inl, inr, eqb-true, both_ways, or_right, cases_Bool, false_from_ne_true, Layout, byte_count, FlatStore, IsWholeStore, has, Lines, has-append, has_right, Plain, Program, On, plan_at, row, touched, after, touched_next, flat_line, AgreeBut, all_of, DoesTheSame, after-whole, after-kept, on, lines_of_plan, row-steps, Active, gone_on, committed_by, IsAmong, due_to, AreConsistent, writer, current_of, touched_of, nat_tests, among-found, none-found, among-replaced, replaced-among, new-among, replaced, one-entry, others, another-same, commit-leaves, rollback-leaves, among-others, others-among, apart-turned, went}
 
 -- where none passes, none is found
 none-passes : (test : Active → Bool) (entries : List Active) → ((entry : Active) → IsAmong entries entry → test entry ≡ false) → find test entries ≡ None

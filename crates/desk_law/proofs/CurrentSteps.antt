@@ -1,8 +1,6 @@
 -- What each step does to a list of bytes that has every line as it is now.
-use Rattle.desk_law.proofs.Common.{◌≡◌, refl, ℕ, ◌+◌, ◌==◌, Bool, false, List, [], ◌∷◌, ◌++◌, length, Some, ap, sym, ◌∙◌, inl, inr, eqb-true, both_ways, cases_Bool, FlatStore, IsWholeStore, has, Plain, after, flat_line, after-kept, Active, AreLinesLaid, committed_by, IsAmong, due_to, AreConsistent, IsCurrent, touched_of, arith}
+use Rattle.desk_law.proofs.Lemmas.{◌≡◌, refl, ℕ, ◌+◌, ◌==◌, Bool, false, List, [], ◌∷◌, ◌++◌, length, Some, ap, sym, ◌∙◌, inl, inr, eqb-true, both_ways, cases_Bool, FlatStore, IsWholeStore, has, Plain, after, flat_line, after-kept, Active, AreLinesLaid, committed_by, IsAmong, due_to, AreConsistent, IsCurrent, touched_of, arith, replaced, among-replaced, replaced-among, new-among, among-push, push-among, one-entry, others}
 use Rattle.desk_law.proofs.CurrentLines.{current-written, current-unwritten, rollback-written, rollback-others, commit-current, by-writer}
-use Rattle.desk_law.proofs.Entries.{replaced, among-replaced, replaced-among, new-among, among-push, push-among, one-entry}
-use Rattle.desk_law.proofs.Others.{others}
 
 module _ (store : FlatStore) (most_lines next : ℕ) (entries : List Active) (are : AreConsistent store most_lines next entries) (bytes : List ℕ) where
   -- A rollback: the lines that the entry wrote are laid back from the committed store.

@@ -1,12 +1,7 @@
 -- A shown cycle closes, where only the waits of its number close one.
-use Rattle.desk_law.proofs.Common.{◌≡◌, refl, ℕ, zero, suc, ◌≤◌, ◌==◌, ◌&&◌, Bool, true, false, List, [], ◌∷◌, length, filter, find, Option, Some, None, arith, ◌∙◌, and_from, has, leads, next_shown, shown_after, shown_cycle, found-has, found-passes, has-filter, Desk, Active, with_active, numbers, waits_for, Counts, Contested, breaks_cycles, IsAmong, HasNoCycle, IsLast, ContestedCyclesClose, except, IsContending, nat_tests, Contest, contest, subst}
-use Rattle.desk_law.proofs.Entries.{orderly, new-among}
-use Rattle.desk_law.proofs.Walks.{first-step, one-step, leads-more, walk-short, all-pass}
+use Rattle.desk_law.proofs.Lemmas.{◌≡◌, refl, ℕ, zero, suc, ◌≤◌, ◌==◌, ◌&&◌, Bool, true, false, List, [], ◌∷◌, length, filter, find, Option, Some, None, arith, ◌∙◌, and_from, has, leads, next_shown, shown_after, shown_cycle, found-has, found-passes, has-filter, Desk, Active, with_active, numbers, waits_for, Counts, Contested, breaks_cycles, IsAmong, HasNoCycle, IsLast, ContestedCyclesClose, except, IsContending, nat_tests, Contest, contest, subst, orderly, new-among, first-step, one-step, leads-more, walk-short, all-pass, contending, rolled-contending, VictimsKeep, victims-keep, marked-contending, has-number}
 use Rattle.desk_law.proofs.SomebodyGoesOn.{reached, leads-to-fewer}
-use Rattle.desk_law.proofs.Contest.{contending, rolled-contending, VictimsKeep, victims-keep}
 use Rattle.desk_law.proofs.ContestRounds.{asker-left}
-use Rattle.desk_law.proofs.GoesOn.{marked-contending}
-use Rattle.desk_law.proofs.Waiting.{has-number}
 
 -- a walk to another comes there first by waits of others than that one
 first-arrival : (waits : ℕ → ℕ → Bool) (all : List ℕ) (to steps from : ℕ) → (from == to) ≡ false → leads waits all steps from to ≡ true → leads (except to waits) all steps from to ≡ true

@@ -1,13 +1,5 @@
 -- A commit, a begin and a crash leave the desk consistent.
-use Rattle.desk_law.proofs.Common.{Some, ◌≡◌, refl, ℕ, zero, suc, ◌+◌, ◌<◌, ◌==◌, not, Bool, true, false, List, [], ◌∷◌, ◌++◌, length, map, replicate, slice_index_or, None, arith, ap, sym, ◌∙◌, subst, inl, inr, both_ways, or_from, and_right, false_from_ne_true, page_count, FlatStore, IsWholeStore, has, meets, no_lines, conflicts, append-nil, leads, Plain, start, after, Commit, row, after-whole, Desk, Active, Grant, nobody, opened, rolled_back, ended, wanted, requested, conflicts_with, numbers, waits_for, InFlight, absent_segment, committed_at, gone_on, committed_by, IsAmong, NumbersAscend, due_to, IsLive, AreLinesApart, AreConsistent, IsCovered, IsOwned, IsHeld, IsOrderly, except, nat_tests, Activation}
-use Rattle.desk_law.proofs.Entries.{among-push, push-among, ascend-push, between, one-entry, among-replaced, replaced-among, new-among, replaced, filter-short}
-use Rattle.desk_law.proofs.Walks.{no-cycle-fewer, no-cycle-leaves, first-step, one-step}
-use Rattle.desk_law.proofs.Others.{among-others, others, another-stays, commit-leaves, rollback-leaves}
-use Rattle.desk_law.proofs.Waiting.{waits-by, waits-from, has-number, fewer-numbers, rollback-waits, commit-waits}
-use Rattle.desk_law.proofs.Holding.{freed, held-others, other-covers}
-use Rattle.desk_law.proofs.Contest.{gone-consistent}
-use Rattle.desk_law.proofs.GoesOn.{IsGranted, others-replaced, due-more}
-use Rattle.desk_law.proofs.LeftLemmas.{went}
+use Rattle.desk_law.proofs.Lemmas.{Some, ◌≡◌, refl, ℕ, zero, suc, ◌+◌, ◌<◌, ◌==◌, not, Bool, true, false, List, [], ◌∷◌, ◌++◌, length, map, replicate, slice_index_or, None, arith, ap, sym, ◌∙◌, subst, inl, inr, both_ways, or_from, and_right, false_from_ne_true, page_count, FlatStore, IsWholeStore, has, meets, no_lines, conflicts, append-nil, leads, Plain, start, after, Commit, row, after-whole, Desk, Active, Grant, nobody, opened, rolled_back, ended, wanted, requested, conflicts_with, numbers, waits_for, InFlight, absent_segment, committed_at, gone_on, committed_by, IsAmong, NumbersAscend, due_to, IsLive, AreLinesApart, AreConsistent, IsCovered, IsOwned, IsHeld, IsOrderly, except, nat_tests, Activation, among-push, push-among, ascend-push, between, one-entry, among-replaced, replaced-among, new-among, replaced, filter-short, no-cycle-fewer, no-cycle-leaves, first-step, one-step, among-others, others, another-stays, commit-leaves, rollback-leaves, waits-by, waits-from, has-number, fewer-numbers, rollback-waits, commit-waits, freed, held-others, other-covers, gone-consistent, IsGranted, others-replaced, due-more, went}
 
 -- One that was granted pages has gone: its store keeps what is due to the others, and whoever waits then did so before.
 granted-gone : (desk : Desk) (attempt : InFlight) (store : FlatStore) (resident : List ℕ) → IsGranted attempt desk → IsWholeStore store → store.directory ≡ desk.committed.directory

@@ -1,8 +1,5 @@
 -- Who ends in a turn: victims, and the turn's own activation.
-use Rattle.desk_law.proofs.Common.{◌≡◌, refl, ℕ, zero, suc, ◌==◌, ◌⊎◌, not, Bool, true, List, [], ◌∷◌, ◌++◌, map, filter, find, Option, Some, None, eqb-true, eq-eqb, not_from_false, cases_Bool, has, victim_of, Plain, Outcome, On, Check, after, Desk, Active, numbers, DiskWord, Counts, Turning, Going, Over, InFlight, Fetching, Contest, Contested, Settled, Lost, attempts, attempts_at, instruction, turns, limited, is_over_limit, fetches_touched, asks, gets, goes_on, takes_effect, contest_ends, waits_or_gets, with_grants, breaks_cycles, gone_on, turn_desk, turn_counts, ends_own, IsAccounted, EndsHaveCauses, nat_tests, arith, event_before, contest}
-use Rattle.desk_law.proofs.Entries.{among-found, filter-among, numbers-replaced}
-use Rattle.desk_law.proofs.Waiting.{number-of, has-number}
-use Rattle.desk_law.proofs.Contest.{without, VictimsKeep, victims-keep}
+use Rattle.desk_law.proofs.Lemmas.{◌≡◌, refl, ℕ, zero, suc, ◌==◌, ◌⊎◌, not, Bool, true, List, [], ◌∷◌, ◌++◌, map, filter, find, Option, Some, None, eqb-true, eq-eqb, not_from_false, cases_Bool, has, victim_of, Plain, Outcome, On, Check, after, Desk, Active, numbers, DiskWord, Counts, Turning, Going, Over, InFlight, Fetching, Contest, Contested, Settled, Lost, attempts, attempts_at, instruction, turns, limited, is_over_limit, fetches_touched, asks, gets, goes_on, takes_effect, contest_ends, waits_or_gets, with_grants, breaks_cycles, gone_on, turn_desk, turn_counts, ends_own, IsAccounted, EndsHaveCauses, nat_tests, arith, event_before, contest, among-found, filter-among, numbers-replaced, number-of, has-number, without, VictimsKeep, victims-keep}
 
 -- a number is active, or a victim's
 abbrev IsKept : Desk → Counts → ℕ → Type 0

@@ -1,10 +1,8 @@
 -- The ends of an entry, from what an attempt over the bytes of all tells: its commit call, its program check, and any rollback.
-use Rattle.desk_law.proofs.Common.{◌≡◌, ℕ, ◌+◌, List, Some, Lines, Plain, Commit, Check, row, after, Desk, Active, ended, rolled_back, DiskWord, Fine, Counts, Over, Checked, Committed, instruction, ordered, commits, AreLinesLaid, IsTableTold, over_all, IsAmong, due_to, IsOrderly, nat_tests, arith, next_attempt, row-way}
+use Rattle.desk_law.proofs.Lemmas.{◌≡◌, ℕ, ◌+◌, List, Some, Lines, Plain, Commit, Check, row, after, Desk, Active, ended, rolled_back, DiskWord, Fine, Counts, Over, Checked, Committed, instruction, ordered, commits, AreLinesLaid, IsTableTold, over_all, IsAmong, due_to, IsOrderly, nat_tests, arith, next_attempt, row-way, went}
 use Rattle.desk_law.proofs.AttemptsOnCurrent.{ends-consistent}
-use Rattle.desk_law.proofs.Contest.{rolled-consistent}
 use Rattle.desk_law.proofs.RowsThere.{commit-row, check-row}
-use Rattle.desk_law.proofs.ToldSteps.{HasCommitted, told-commit, told-rollback}
-use Rattle.desk_law.proofs.LeftLemmas.{went}
+use Rattle.desk_law.proofs.ToldSteps.{HasCommitted, told-commit}
 
 -- the desk after the commit of an entry at a state
 abbrev pub committed_desk : Desk → Active → Plain → Desk
@@ -36,17 +34,6 @@ commit-ends desk counts entry now locks requests states bytes is here at told we
           ends-consistent Fine desk (committed_desk desk entry now) counts (record counts { ran = counts.ran + 1 }) (Committed (entry.rows + 1) now.out) entry is here (comes Fine);
       told = done.told;
     }
-
--- what a rollback of an active entry leaves, of whatever cause: a check, the limit, a failed read or a lost contest
-pub record Rolls (desk : Desk) (gone : Active) (locks requests : ℕ → Lines) (states : ℕ → Plain) (bytes : List ℕ) : Type 0 where
-  pub consistent : IsOrderly (rolled_back desk gone)
-  pub told : IsTableTold desk.committed (rolled_back desk gone).active locks requests states bytes
-
-pub rolls : (desk : Desk) (gone : Active) (locks requests : ℕ → Lines) (states : ℕ → Plain) (bytes new : List ℕ)
-    → IsOrderly desk → IsAmong desk.active gone → IsTableTold desk.committed desk.active locks requests states bytes
-    → AreLinesLaid desk.committed (due_to desk.committed gone).writes desk.committed.bytes bytes new
-    → Rolls desk gone locks requests states new
-rolls desk gone locks requests states bytes new is here told laid = grind (arith, nat_tests, rolled-consistent desk gone is, told-rollback desk.committed desk.most_lines desk.next desk.active locks requests states bytes new gone is.active here told laid)
 
 -- a program check
 pub check-ends : (desk : Desk) (counts : Counts) (entry : Active) (now : Plain) (code : ℕ) (bytes : List ℕ)

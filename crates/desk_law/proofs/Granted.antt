@@ -1,6 +1,5 @@
 -- Once the refused pages are granted, every line of the row is permitted.
-use Rattle.desk_law.proofs.Common.{◌≡◌, refl, ℕ, ◌<◌, ◌==◌, not, Bool, true, false, List, length, filter, slice_index_or, list_any, ap, ◌∙◌, inl, inr, eq-eqb, both_ways, and_from, or_parts, cases_Bool, not-false, false_from_ne_true, has, permits, Lines, within_page, page_of_line, any-at, has-filter, has_left, has_right, has-within_page, pages_of-line, all_of, Grant, nobody, InFlight, grant_by, given_by_locks, granted, refuses, lines_within, touched_pages, lets, ArePermitted, KeepsPages, nat_tests, arith, event_before}
-use Rattle.desk_law.proofs.EachPage.{each-is, each-not}
+use Rattle.desk_law.proofs.Lemmas.{◌≡◌, refl, ℕ, ◌<◌, ◌==◌, not, Bool, true, false, List, length, filter, slice_index_or, list_any, ap, ◌∙◌, inl, inr, eq-eqb, both_ways, and_from, or_parts, cases_Bool, not-false, false_from_ne_true, has, permits, Lines, within_page, page_of_line, any-at, has-filter, has_left, has_right, has-within_page, pages_of-line, all_of, Grant, nobody, InFlight, grant_by, given_by_locks, granted, refuses, lines_within, touched_pages, lets, ArePermitted, KeepsPages, nat_tests, arith, event_before, each-is, each-not}
 
 read-there : (same bit : Bool) → same ≡ true → permits same true bit false ≡ true
 read-there same bit h1 = grind (arith, nat_tests)

@@ -1,8 +1,7 @@
 -- What a crash leaves of a run from an opening.
-use Rattle.desk_law.proofs.Common.{false, not, Bool, ◌%◌, ◌^◌, take_at, map-append, Program, serial, Stands, Event, begun, stands, standing_of, fine_step, Desk, opened, DiskWord, Fine, Doubt, run, step, IsRunOf, OpenBeforeEach, IsStage, nat_tests, ◌≡◌, ℕ, ◌+◌, ◌<◌, List, [], ◌∷◌, ◌++◌, length, map, take, refl, sym, ap, ◌∙◌, arith, length-append, append-nil, append_assoc, Some, IsTrue, Activation, FlatStore, run_serial}
+use Rattle.desk_law.proofs.Lemmas.{false, not, Bool, ◌%◌, ◌^◌, take_at, map-append, Program, serial, Stands, Event, begun, stands, standing_of, fine_step, Desk, opened, DiskWord, Fine, Doubt, run, step, IsRunOf, OpenBeforeEach, IsStage, nat_tests, ◌≡◌, ℕ, ◌+◌, ◌<◌, List, [], ◌∷◌, ◌++◌, length, map, take, refl, sym, ap, ◌∙◌, arith, length-append, append-nil, append_assoc, Some, IsTrue, Activation, FlatStore, run_serial, run_on}
 use Rattle.store_format.proofs.Sound.{stood_header}
 use Rattle.desk_law.specs.Headline.{IsFirst, IsPrefix, LeftIsPrefix, DoubtIsWhole}
-use Rattle.desk_law.proofs.RunLemmas.{run_on}
 use Rattle.desk_law.proofs.StepLemmas.{Stepped, step_by}
 
 -- a run whose last desk is open leaves what its order leaves, one after another

@@ -1,7 +1,6 @@
 -- Grant that is kept under identifiers of seats, and told under the numbers of the activations in them.
-use Rattle.desk_law.proofs.Common.{◌≡◌, refl, ℕ, zero, suc, ◌==◌, ◌||◌, not, if◌then◌else◌, Bool, true, false, List, [], ◌∷◌, map, filter, slice_set, slice_index_or, list_any, ap, sym, has, Lines, within_page, is_whole_page, pages_of, Grant, nobody, InFlight, grant_by, fine_grant_by, given_by_locks, with_each, granted, lowered, refuses, lines_within, owner_told, owners_told, StandsFor, lets, nat_tests, arith}
+use Rattle.desk_law.proofs.Lemmas.{◌≡◌, refl, ℕ, zero, suc, ◌==◌, ◌||◌, not, if◌then◌else◌, Bool, true, false, List, [], ◌∷◌, map, filter, slice_set, slice_index_or, list_any, ap, sym, has, Lines, within_page, is_whole_page, pages_of, Grant, nobody, InFlight, grant_by, fine_grant_by, given_by_locks, with_each, granted, lowered, refuses, lines_within, owner_told, owners_told, StandsFor, lets, nat_tests, arith, freed}
 use Rattle.desk_law.proofs.AlikeSets.{filter-same}
-use Rattle.desk_law.proofs.Holding.{freed}
 
 module _ (numbers : ℕ → ℕ) (none : numbers 0 ≡ 0) where
   pub told-page : (authority : List Grant) (page : ℕ) → slice_index_or (owners_told numbers authority) page nobody ≡ owner_told numbers (slice_index_or authority page nobody)

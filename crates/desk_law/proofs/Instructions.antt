@@ -1,9 +1,5 @@
 -- What an instruction of an entry does to the entries and to what is committed.
-use Rattle.desk_law.proofs.Common.{◌≡◌, ℕ, ◌+◌, ◌==◌, Bool, true, false, List, Some, None, eq-eqb, both_ways, victim_of, Plain, On, Desk, Active, with_active, rolled_back, Turning, Going, Over, Committed, InFlight, Contest, Contested, Settled, Lost, breaks_cycles, row_done, committed_by, IsAmong, AreConsistent, nat_tests, arith, contest}
-use Rattle.desk_law.proofs.Entries.{among-filter, among-found, none-found, among-replaced, one-entry}
-use Rattle.desk_law.proofs.Others.{others, among-others}
-use Rattle.desk_law.proofs.Contest.{VictimsKeep, victims-keep}
-use Rattle.desk_law.proofs.GoesOn.{IsGranted}
+use Rattle.desk_law.proofs.Lemmas.{◌≡◌, ℕ, ◌+◌, ◌==◌, Bool, true, false, List, Some, None, eq-eqb, both_ways, victim_of, Plain, On, Desk, Active, with_active, rolled_back, Turning, Going, Over, Committed, InFlight, Contest, Contested, Settled, Lost, breaks_cycles, row_done, committed_by, IsAmong, AreConsistent, nat_tests, arith, contest, among-filter, among-found, none-found, among-replaced, one-entry, others, among-others, VictimsKeep, victims-keep, IsGranted}
 
 -- what is committed is as it was, and the entries of other numbers were active before
 pub record From (number : ℕ) (old desk : Desk) : Type 0 where

@@ -1,7 +1,5 @@
 -- The locks and the requests of active entries as a supervisor keeps them, and what steps do to them.
-use Rattle.desk_law.proofs.Common.{◌≡◌, refl, ℕ, ◌==◌, ◌&&◌, ◌||◌, if◌then◌else◌, Bool, true, List, [], ◌∷◌, filter, map, Some, list_any, ap, sym, ◌∙◌, inl, inr, FlatStore, IsWholeStore, has, meets, Lines, conflicts, shown_cycle, has-append, any-some, meets-at, Plain, after, Desk, Active, requested, conflicts_with, conflicts_of, waits_for, numbers, AreAlike, AreTablesKept, IsTableBut, kept_conflict, kept_waits, committed_by, gone_on, IsAmong, due_to, AreConsistent, nat_tests, arith}
-use Rattle.desk_law.proofs.Entries.{replaced, among-replaced, among-filter}
-use Rattle.desk_law.proofs.Others.{others, another-stays, among-others}
+use Rattle.desk_law.proofs.Lemmas.{◌≡◌, refl, ℕ, ◌==◌, ◌&&◌, ◌||◌, if◌then◌else◌, Bool, true, List, [], ◌∷◌, filter, map, Some, list_any, ap, sym, ◌∙◌, inl, inr, FlatStore, IsWholeStore, has, meets, Lines, conflicts, shown_cycle, has-append, any-some, meets-at, Plain, after, Desk, Active, requested, conflicts_with, conflicts_of, waits_for, numbers, AreAlike, AreTablesKept, IsTableBut, kept_conflict, kept_waits, committed_by, gone_on, IsAmong, due_to, AreConsistent, nat_tests, arith, replaced, among-replaced, among-filter, others, another-stays, among-others}
 use Rattle.desk_law.proofs.ConsistentLaw.{consistent}
 
 pub alike-same : (lines : Lines) → AreAlike lines lines

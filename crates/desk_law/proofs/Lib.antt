@@ -56,3 +56,4 @@ pub mod StepLemmas
 pub mod RunLemmas
 pub mod LeftLemmas
 pub mod HeadlineLemmas
+mod Lemmas

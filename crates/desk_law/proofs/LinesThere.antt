@@ -1,6 +1,5 @@
 -- An instruction all of whose lines are on resident pages that permit them: it takes effect at once.
-use Rattle.desk_law.proofs.Common.{◌≡◌, refl, ℕ, ◌==◌, ◌&&◌, not, Bool, true, false, List, [], ◌∷◌, ◌++◌, filter, slice_index_or, list_any, ap, sym, ◌∙◌, subst, eqb-true, and_right, or_right, or_from, not_from_true, is_fine_page, has, Lines, both, with_whole_pages, within_page, is_whole_page, page_of_line, pages_of, has-append, any-some, ArePart, part-both, part-whole_pages, has-within_page, has-pages_of, has-whole, Desk, Active, nobody, wanted, requested, DiskWord, Fetched, fetches, refuses, lines_within, InFlight, locks_with, with_each, to_read, lowered_pages, with_lowered, AreLinesThere, IsAmong, due_to, lets, IsOrderly, touched_of, nat_tests, arith, IsThere}
-use Rattle.desk_law.proofs.Permitted.{any-none, permitted-held}
+use Rattle.desk_law.proofs.Lemmas.{◌≡◌, refl, ℕ, ◌==◌, ◌&&◌, not, Bool, true, false, List, [], ◌∷◌, ◌++◌, filter, slice_index_or, list_any, ap, sym, ◌∙◌, subst, eqb-true, and_right, or_right, or_from, not_from_true, is_fine_page, has, Lines, both, with_whole_pages, within_page, is_whole_page, page_of_line, pages_of, has-append, any-some, ArePart, part-both, part-whole_pages, has-within_page, has-pages_of, has-whole, Desk, Active, nobody, wanted, requested, DiskWord, Fetched, fetches, refuses, lines_within, InFlight, locks_with, with_each, to_read, lowered_pages, with_lowered, AreLinesThere, IsAmong, due_to, lets, IsOrderly, touched_of, nat_tests, arith, IsThere, any-none, permitted-held}
 
 -- where none passes
 pub filter-none : (test : ℕ → Bool) (xs : List ℕ) → ((x : ℕ) → test x ≡ false) → filter test xs ≡ []

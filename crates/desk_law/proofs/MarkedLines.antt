@@ -1,10 +1,7 @@
 -- The lines that are marked as written: those that some active entry has written.
-use Rattle.desk_law.proofs.Common.{◌≡◌, refl, ℕ, ◌&&◌, ◌||◌, not, Bool, true, List, Some, list_any, sym, ◌∙◌, inl, inr, or_cases, or_right, FlatStore, IsWholeStore, has, Plain, after, touched_next, Active, AreWrittenMarked, committed_by, gone_on, IsAmong, due_to, AreConsistent, touched_of, arith, nat_tests}
+use Rattle.desk_law.proofs.Lemmas.{◌≡◌, refl, ℕ, ◌&&◌, ◌||◌, not, Bool, true, List, Some, list_any, sym, ◌∙◌, inl, inr, or_cases, or_right, FlatStore, IsWholeStore, has, Plain, after, touched_next, Active, AreWrittenMarked, committed_by, gone_on, IsAmong, due_to, AreConsistent, touched_of, arith, nat_tests, replaced, among-replaced, replaced-among, new-among, one-entry, others, another-stays, among-others, others-among, any-among, among-any}
 use Rattle.desk_law.proofs.CurrentLines.{within-more, wrote-held}
-use Rattle.desk_law.proofs.Entries.{replaced, among-replaced, replaced-among, new-among, one-entry}
 use Rattle.desk_law.proofs.KeptTables.{both-imply, any-entries}
-use Rattle.desk_law.proofs.Others.{others, another-stays, among-others, others-among}
-use Rattle.desk_law.proofs.Waiting.{any-among, among-any}
 
 module _ (store : FlatStore) (most_lines next : ℕ) (entries : List Active) (consistent : AreConsistent store most_lines next entries) (marked : ℕ → Bool) (are : AreWrittenMarked store entries marked) where
   -- a row marks the lines that it wrote

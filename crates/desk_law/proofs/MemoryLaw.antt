@@ -1,16 +1,10 @@
 -- The law of isolation.
-use Rattle.desk_law.proofs.Common.{Activation, ◌≤◌, ◌≡◌, refl, ℕ, zero, suc, ◌+◌, ◌<◌, ◌==◌, ◌||◌, if◌then◌else◌, Bool, true, false, List, [], ◌∷◌, ◌++◌, length, map, find, Option, Some, None, slice_get, arith, ap, sym, ◌∙◌, subst, inl, inr, eqb-true, ne_eqb, ltb-true, FlatStore, IsWholeStore, has, Program, after, Event, Begin, Turn, Checkpoint, Crash, Desk, Active, opened, numbers, DiskWord, Failed, Counts, Turning, Going, Over, Idle, Committed, InFlight, instruction, turns, turn_of, no_counts, Turned, turned, begin_if, absent_segment, restarted, event_of, step, run, gone_on, row_done, IsAmong, IsConsistent, current_bytes, turn_desk, Machine, Memory, first_machine, with_machine, given_back, row_by_entry, after_instruction, after_turns, after_event, memory_after, opening_memory, IsMemory, FindTheirOwn, RunsAreIsolated, CommitsTellTheMachine, SideBySideIsSerial, IsOrderly, nat_tests, next_attempt, begun, cases_Bool, granted, printed, run_serial}
-use Rattle.flat_machine.proofs.Agreement.{serial-whole}
-use Rattle.desk_law.proofs.Entries.{orderly, among-found, new-among, among-push, between, found-among, one-entry, numbers-replaced}
-use Rattle.desk_law.proofs.Others.{others, among-others, others-among}
-use Rattle.desk_law.proofs.Waiting.{number-of, has-number}
-use Rattle.desk_law.proofs.GoesOn.{IsGranted}
+use Rattle.desk_law.proofs.Lemmas.{Activation, ◌≤◌, ◌≡◌, refl, ℕ, zero, suc, ◌+◌, ◌<◌, ◌==◌, ◌||◌, if◌then◌else◌, Bool, true, false, List, [], ◌∷◌, ◌++◌, length, map, find, Option, Some, None, slice_get, arith, ap, sym, ◌∙◌, subst, inl, inr, eqb-true, ne_eqb, ltb-true, FlatStore, IsWholeStore, has, Program, after, Event, Begin, Turn, Checkpoint, Crash, Desk, Active, opened, numbers, DiskWord, Failed, Counts, Turning, Going, Over, Idle, Committed, InFlight, instruction, turns, turn_of, no_counts, Turned, turned, begin_if, absent_segment, restarted, event_of, step, run, gone_on, row_done, IsAmong, IsConsistent, current_bytes, turn_desk, Machine, Memory, first_machine, with_machine, given_back, row_by_entry, after_instruction, after_turns, after_event, memory_after, opening_memory, IsMemory, FindTheirOwn, RunsAreIsolated, CommitsTellTheMachine, SideBySideIsSerial, IsOrderly, nat_tests, next_attempt, begun, cases_Bool, granted, printed, run_serial, serial-whole, orderly, among-found, new-among, among-push, between, found-among, one-entry, numbers-replaced, others, among-others, others-among, number-of, has-number, IsGranted, bytes-current, one-current}
 use Rattle.desk_law.proofs.Endings.{first_entry, with_first, begins-consistent}
 use Rattle.desk_law.proofs.Instructions.{From, RowDone, CommitDone, NoRowDone, Did}
 use Rattle.desk_law.proofs.TurnsStay.{Stays, Instructed, instructed}
 use Rattle.desk_law.proofs.ConsistentLaw.{stays-consistent, runs-consistent}
 use Rattle.desk_law.proofs.KeptTables.{both-imply}
-use Rattle.desk_law.proofs.CurrentBytes.{bytes-current, one-current}
 use Rattle.desk_law.proofs.CurrentLaw.{holders_see_current}
 use Rattle.desk_law.proofs.CurrentSteps.{current-begun, current-quiet}
 use Rattle.desk_law.proofs.MemorySteps.{AreFewer, memory-current, given-back, row-done, commit-done}

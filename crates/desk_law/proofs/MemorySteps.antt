@@ -1,11 +1,6 @@
 -- What machines side by side do to one memory, step by step.
-use Rattle.desk_law.proofs.Common.{◌≡◌, refl, ℕ, ◌==◌, ◌||◌, not, if◌then◌else◌, Bool, true, false, List, [], ◌∷◌, ◌++◌, length, filter, Option, Some, flat_map, list_any, ap, sym, ◌∙◌, subst, inl, inr, both_ways, and_parts, cases_Bool, not-true, cond-false, same_Some, Layout, byte_count, FlatStore, IsWholeStore, has, Lines, has-append, has-filter, any-at, any-some, Plain, Program, Outcome, On, plan_at, row, touched, after, due_locks, touched_next, flat_line, after-whole, Desk, Active, numbers, InFlight, AreLinesLaid, gone_on, row_done, committed_by, IsAmong, due_to, AreConsistent, current, IsCurrent, current_bytes, Machine, Memory, laid_lines, wrote_by, given_back, memory_went_on, does_row, commit_of, IsAlone, IsMemory, IsOrderly, nat_tests, arith}
-use Rattle.desk_law.proofs.Entries.{replaced, among-filter, among-replaced, one-entry}
-use Rattle.desk_law.proofs.Others.{others, another-same, after-row}
-use Rattle.desk_law.proofs.Waiting.{number-of, has-number}
-use Rattle.desk_law.proofs.GoesOn.{IsGranted, due-more}
+use Rattle.desk_law.proofs.Lemmas.{◌≡◌, refl, ℕ, ◌==◌, ◌||◌, not, if◌then◌else◌, Bool, true, false, List, [], ◌∷◌, ◌++◌, length, filter, Option, Some, flat_map, list_any, ap, sym, ◌∙◌, subst, inl, inr, both_ways, and_parts, cases_Bool, not-true, cond-false, same_Some, Layout, byte_count, FlatStore, IsWholeStore, has, Lines, has-append, has-filter, any-at, any-some, Plain, Program, Outcome, On, plan_at, row, touched, after, due_locks, touched_next, flat_line, after-whole, Desk, Active, numbers, InFlight, AreLinesLaid, gone_on, row_done, committed_by, IsAmong, due_to, AreConsistent, current, IsCurrent, current_bytes, Machine, Memory, laid_lines, wrote_by, given_back, memory_went_on, does_row, commit_of, IsAlone, IsMemory, IsOrderly, nat_tests, arith, replaced, among-filter, among-replaced, one-entry, others, another-same, after-row, number-of, has-number, IsGranted, due-more, bytes-current, laid-is}
 use Rattle.desk_law.proofs.CurrentLines.{wrote-held, holder-or-none, current-written, current-unwritten, commit-current, by-writer}
-use Rattle.desk_law.proofs.CurrentBytes.{bytes-current, laid-is}
 use Rattle.desk_law.proofs.CurrentLaw.{row-runs}
 use Rattle.desk_law.proofs.CurrentSteps.{commit-laid}
 

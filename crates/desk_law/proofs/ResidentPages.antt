@@ -1,6 +1,5 @@
 -- The resident pages fit the frames, each once, and are pages of the store.
-use Rattle.desk_law.proofs.Common.{◌≡◌, refl, ℕ, zero, suc, ◌+◌, ◌<◌, ◌≤◌, ◌==◌, Bool, true, false, List, [], ◌∷◌, ◌++◌, length, filter, remove, arith, ap, length-append, or_right, or_parts, position-Some, has, brought, taken_out, has-append, has-filter, DiskWord, Fetching, Fetched, Broken, fetches, AreDistinct, AreResident, nat_tests}
-use Rattle.desk_law.proofs.Entries.{filter-short}
+use Rattle.desk_law.proofs.Lemmas.{◌≡◌, refl, ℕ, zero, suc, ◌+◌, ◌<◌, ◌≤◌, ◌==◌, Bool, true, false, List, [], ◌∷◌, ◌++◌, length, filter, remove, arith, ap, length-append, or_right, or_parts, position-Some, has, brought, taken_out, has-append, has-filter, DiskWord, Fetching, Fetched, Broken, fetches, AreDistinct, AreResident, nat_tests, filter-short}
 
 -- one page more, which isn't there
 push-distinct : (pages : List ℕ) (page : ℕ) → AreDistinct pages → has pages page ≡ false → AreDistinct (pages ++ page ∷ [])

@@ -1,6 +1,5 @@
 -- A turn leaves resident pages that fit.
-use Rattle.desk_law.proofs.Common.{◌≡◌, refl, ℕ, zero, suc, ◌<◌, ◌≤◌, ◌==◌, true, false, List, find, Option, Some, None, option_map_or, arith, sym, ◌∙◌, Layout, page_count, has, no_lines, page_of_line, any-some, has-pages_of, Plain, Program, Outcome, row, after, touched, all_of, touched-below, Desk, Active, rolled_back, wanted, DiskWord, Counts, Turning, Going, Over, InFlight, Contest, Contested, Settled, Lost, attempts, attempts_at, instruction, turns, touched_pages, fetches_touched, asks, gets, takes_effect, contest_ends, waits_or_gets, breaks_cycles, AreResident, nat_tests, contest}
-use Rattle.desk_law.proofs.Contest.{VictimsKeep, victims-keep}
+use Rattle.desk_law.proofs.Lemmas.{◌≡◌, refl, ℕ, zero, suc, ◌<◌, ◌≤◌, ◌==◌, true, false, List, find, Option, Some, None, option_map_or, arith, sym, ◌∙◌, Layout, page_count, has, no_lines, page_of_line, any-some, has-pages_of, Plain, Program, Outcome, row, after, touched, all_of, touched-below, Desk, Active, rolled_back, wanted, DiskWord, Counts, Turning, Going, Over, InFlight, Contest, Contested, Settled, Lost, attempts, attempts_at, instruction, turns, touched_pages, fetches_touched, asks, gets, takes_effect, contest_ends, waits_or_gets, breaks_cycles, AreResident, nat_tests, contest, VictimsKeep, victims-keep}
 use Rattle.desk_law.proofs.ResidentPages.{FetchFits, fetches-resident, taken-resident, none-resident}
 
 -- there are two frames, and the resident pages fit

@@ -1,9 +1,6 @@
 -- An instruction of a consistent desk whose lines are all there: nothing is counted but the row, and nothing else changes.
-use Rattle.desk_law.proofs.Common.{nat_lt, ◌≡◌, refl, ℕ, ◌+◌, Bool, true, false, List, [], ◌++◌, length, filter, Some, slice_index_or, arith, ap, sym, ◌∙◌, subst, is_fine_page, has, size, Lines, pages_of, has-append, ArePart, Plain, On, Commit, Check, row, after, Desk, Active, nobody, with_active, rolled_back, wanted, requested, conflicts_of, DiskWord, Counts, Going, Over, Checked, InFlight, Fetched, fetches, instruction, lines_written, refuses, lines_within, gets, takes_effect, commits, nat_tests, AreLinesThere, AreAlike, gone_on, IsAmong, due_to, IsOrderly, touched_of, next_attempt, part, ◌||◌}
-use Rattle.desk_law.proofs.GoesOn.{due-more, whole-both}
-use Rattle.desk_law.proofs.InstructionStages.{GoesOn, instruction-at, stage-limit, stage-fetched, stage-gets, stage-on}
+use Rattle.desk_law.proofs.Lemmas.{nat_lt, ◌≡◌, refl, ℕ, ◌+◌, Bool, true, false, List, [], ◌++◌, length, filter, Some, slice_index_or, arith, ap, sym, ◌∙◌, subst, is_fine_page, has, size, Lines, pages_of, has-append, ArePart, Plain, On, Commit, Check, row, after, Desk, Active, nobody, with_active, rolled_back, wanted, requested, conflicts_of, DiskWord, Counts, Going, Over, Checked, InFlight, Fetched, fetches, instruction, lines_written, refuses, lines_within, gets, takes_effect, commits, nat_tests, AreLinesThere, AreAlike, gone_on, IsAmong, due_to, IsOrderly, touched_of, next_attempt, part, ◌||◌, due-more, whole-both, GoesOn, instruction-at, stage-limit, stage-fetched, stage-gets, stage-on, held-free, held-written}
 use Rattle.desk_law.proofs.LinesThere.{filter-none, fetches-none, there-resident, there-unrefused, there-held, there-lowered}
-use Rattle.desk_law.proofs.Permitted.{held-free, held-written}
 
 -- What an instruction comes to that goes through with nothing fetched, refused or met.
 pub effect-there :

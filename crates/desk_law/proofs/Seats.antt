@@ -1,7 +1,5 @@
 -- Entries that are told from seats: what becomes of them as one seat changes or is left, and tables by seat as tables by number.
-use Rattle.desk_law.proofs.Common.{◌≡◌, refl, ℕ, ◌==◌, ◌&&◌, not, if◌then◌else◌, Bool, true, false, List, [], ◌∷◌, map, filter, find, Some, list_any, option_map, ◌∙◌, inl, inr, eqb-true, eq-eqb, or_left, or_right, FlatStore, has, Lines, no_lines, conflicts, any-at, any-some, any-named, find-named, Active, AreAlike, requested, AreTablesKept, AreSeats, by_number, kept_conflict, kept_waits, IsAmong, due_to, nat_tests, arith}
-use Rattle.desk_law.proofs.Entries.{replaced}
-use Rattle.desk_law.proofs.Others.{others}
+use Rattle.desk_law.proofs.Lemmas.{◌≡◌, refl, ℕ, ◌==◌, ◌&&◌, not, if◌then◌else◌, Bool, true, false, List, [], ◌∷◌, map, filter, find, Some, list_any, option_map, ◌∙◌, inl, inr, eqb-true, eq-eqb, or_left, or_right, FlatStore, has, Lines, no_lines, conflicts, any-at, any-some, any-named, find-named, Active, AreAlike, requested, AreTablesKept, AreSeats, by_number, kept_conflict, kept_waits, IsAmong, due_to, nat_tests, arith, replaced, others}
 
 -- an entry that is told is that of a seat
 pub told-seat : (taken : List ℕ) (entry_of : ℕ → Active) (entry : Active) → IsAmong (map entry_of taken) entry → (at : ℕ) × (has taken at ≡ true) × (entry_of at ≡ entry)

@@ -1,10 +1,7 @@
 -- The end of an instruction that was served: its pages are granted and there, and its row goes on over the bytes of all.
-use Rattle.desk_law.proofs.Common.{◌≡◌, ℕ, ◌+◌, true, List, [], arith, ◌∙◌, is_fine_page, Plain, On, row, Desk, conflicts_of, DiskWord, Counts, Going, InFlight, Fetched, fetches, touched_pages, granted, locks_with, with_grants, gets, over_all, gone_on, row_done, IsCurrent, IsUnderWay, MayGoOn, IsOrderly, nat_tests}
-use Rattle.desk_law.proofs.Entries.{replaced}
-use Rattle.desk_law.proofs.GoesOn.{ready-again, grants-held, row-goes-on}
+use Rattle.desk_law.proofs.Lemmas.{◌≡◌, ℕ, ◌+◌, true, List, [], arith, ◌∙◌, is_fine_page, Plain, On, row, Desk, conflicts_of, DiskWord, Counts, Going, InFlight, Fetched, fetches, touched_pages, granted, locks_with, with_grants, gets, over_all, gone_on, row_done, IsCurrent, IsUnderWay, MayGoOn, IsOrderly, nat_tests, replaced, ready-again, grants-held, row-goes-on, went}
 use Rattle.desk_law.proofs.SharedBytes.{row-on-current}
 use Rattle.desk_law.proofs.TurnsStay.{resident-granted}
-use Rattle.desk_law.proofs.LeftLemmas.{went}
 
 -- and once a contest is settled
 pub ready-settled : (attempt : InFlight) (old desk : Desk) → MayGoOn attempt old → IsUnderWay old desk (record attempt.entry { waiting = true }) → IsOrderly desk

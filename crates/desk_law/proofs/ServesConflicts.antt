@@ -1,10 +1,6 @@
 -- The loop that serves a conflict: what it keeps, how it begins, one turn of it, and its ends.
-use Rattle.desk_law.proofs.Common.{◌≡◌, refl, ℕ, ◌==◌, true, false, List, [], ◌∷◌, filter, map, find, Option, Some, None, sym, ◌∙◌, Lines, shown_cycle, victim_of, Plain, Desk, Active, with_active, rolled_back, numbers, waits_for, conflicts_of, DiskWord, Counts, Turning, Over, Victim, Waits, InFlight, contest_ends, waits_or_gets, gets, asks, AreLinesLaid, AreAlike, requested, IsTableBut, kept_conflict, kept_waits, IsTableTold, Reads, IsAmong, due_to, contest, IsUnderWay, MayGoOn, marked_waiting, IsOrderly}
-use Rattle.desk_law.proofs.Contest.{contending}
+use Rattle.desk_law.proofs.Lemmas.{◌≡◌, refl, ℕ, ◌==◌, true, false, List, [], ◌∷◌, filter, map, find, Option, Some, None, sym, ◌∙◌, Lines, shown_cycle, victim_of, Plain, Desk, Active, with_active, rolled_back, numbers, waits_for, conflicts_of, DiskWord, Counts, Turning, Over, Victim, Waits, InFlight, contest_ends, waits_or_gets, gets, asks, AreLinesLaid, AreAlike, requested, IsTableBut, kept_conflict, kept_waits, IsTableTold, Reads, IsAmong, due_to, contest, IsUnderWay, MayGoOn, marked_waiting, IsOrderly, contending, among-found, marked-contending, stage-settled}
 use Rattle.desk_law.proofs.ContestRounds.{with_cycle, entry_with, under-way, round-under_way, round-settles, round-breaks, round-loses, asks-contest, settled-consistent, lost-consistent, victim-there}
-use Rattle.desk_law.proofs.Entries.{among-found}
-use Rattle.desk_law.proofs.GoesOn.{marked-contending}
-use Rattle.desk_law.proofs.InstructionStages.{stage-settled}
 use Rattle.desk_law.proofs.KeptTables.{conflicts-kept, cycle-kept}
 use Rattle.desk_law.proofs.ServedEffect.{ready-settled}
 use Rattle.desk_law.proofs.ToldSteps.{told-mark, told-rollback}

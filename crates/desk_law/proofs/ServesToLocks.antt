@@ -1,11 +1,8 @@
 -- The first half of serving a fault: the limit, the pages, the refused pages and the conflicts, from what an attempt over the
 -- bytes of all tells.
-use Rattle.desk_law.proofs.Common.{Bool, true, false, nat_lt, ◌≡◌, refl, ℕ, ◌+◌, ◌≤◌, List, [], ◌++◌, length, filter, map, Some, ltb-false, arith, ap, sym, ◌∙◌, subst, Layout, is_fine_page, size, Lines, with_whole_pages, Plain, On, row, touched, after, Desk, Active, rolled_back, wanted, requested, conflicts_of, DiskWord, Fine, Counts, Turning, Going, Over, Journal, Disk, InFlight, Fetched, Broken, fetches, instruction, attempts, limited, is_over_limit, lines_written, touched_pages, refused_pages, asks, gets, AreAlike, over_all, AreTablesKept, kept_conflict, Reads, row_done, IsAmong, due_to, MayGoOn, touched_of, served_attempt, IsOrderly, nat_tests}
+use Rattle.desk_law.proofs.Lemmas.{Bool, true, false, nat_lt, ◌≡◌, refl, ℕ, ◌+◌, ◌≤◌, List, [], ◌++◌, length, filter, map, Some, ltb-false, arith, ap, sym, ◌∙◌, subst, Layout, is_fine_page, size, Lines, with_whole_pages, Plain, On, row, touched, after, Desk, Active, rolled_back, wanted, requested, conflicts_of, DiskWord, Fine, Counts, Turning, Going, Over, Journal, Disk, InFlight, Fetched, Broken, fetches, instruction, attempts, limited, is_over_limit, lines_written, touched_pages, refused_pages, asks, gets, AreAlike, over_all, AreTablesKept, kept_conflict, Reads, row_done, IsAmong, due_to, MayGoOn, touched_of, served_attempt, IsOrderly, nat_tests, contending, fetched-for, fetched-few, GoesOn, instruction-at, stage-limit, stage-broken, stage-fetched}
 use Rattle.desk_law.proofs.AlikeSets.{written-alike}
 use Rattle.desk_law.proofs.AttemptsOnCurrent.{IsOwnRow, own-row, wanted-is}
-use Rattle.desk_law.proofs.Contest.{contending}
-use Rattle.desk_law.proofs.FetchesCounted.{fetched-for, fetched-few}
-use Rattle.desk_law.proofs.InstructionStages.{GoesOn, instruction-at, stage-limit, stage-broken, stage-fetched}
 use Rattle.desk_law.proofs.KeptTables.{conflicts-kept}
 use Rattle.desk_law.proofs.ServedEffect.{got}
 use Rattle.desk_law.proofs.ToldSteps.{HasServed}

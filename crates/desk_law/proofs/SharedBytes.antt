@@ -1,8 +1,5 @@
 -- One store of bytes for all entries: it holds every line as it is now, and each row may run over it.
-use Rattle.desk_law.proofs.Common.{◌≡◌, ℕ, ◌+◌, ◌==◌, true, false, List, [], length, Some, ap, sym, ◌∙◌, subst, inl, inr, or_parts, cases_Bool, byte_count, FlatStore, IsWholeStore, has, Lines, has-append, has_left, has_right, meets-at, Plain, Outcome, On, plan_at, row, touched, after, flat_line, all_of, after-whole, after-kept, on, Keeps, Steps, lines_of_plan, row-steps, Desk, Active, wanted, requested, conflicts_of, gone_on, IsAmong, AreConsistent, current_of, current, IsCurrent, touched_of, arith, nat_tests, Layout, Program}
-use Rattle.desk_law.proofs.Entries.{replaced, one-entry}
-use Rattle.desk_law.proofs.Others.{after-row}
-use Rattle.desk_law.proofs.GoesOn.{nobody-meets}
+use Rattle.desk_law.proofs.Lemmas.{◌≡◌, ℕ, ◌+◌, ◌==◌, true, false, List, [], length, Some, ap, sym, ◌∙◌, subst, inl, inr, or_parts, cases_Bool, byte_count, FlatStore, IsWholeStore, has, Lines, has-append, has_left, has_right, meets-at, Plain, Outcome, On, plan_at, row, touched, after, flat_line, all_of, after-whole, after-kept, on, Keeps, Steps, lines_of_plan, row-steps, Desk, Active, wanted, requested, conflicts_of, gone_on, IsAmong, AreConsistent, current_of, current, IsCurrent, touched_of, arith, nat_tests, Layout, Program, replaced, one-entry, after-row, nobody-meets}
 use Rattle.desk_law.proofs.CurrentLines.{current-written, current-unwritten, row-writes, row-leaves}
 
 -- a line that no other wrote is seen as it is now

@@ -1,7 +1,5 @@
 -- Where nobody waits for himself, somebody waits for nobody.
-use Rattle.desk_law.proofs.Common.{◌≡◌, refl, ℕ, zero, suc, ◌<◌, ◌&&◌, not, Bool, true, false, List, length, filter, list_any, arith, inl, inr, and_from, not_from_false, has, leads, any-at, any-some, numbers, waits_for, HasNoCycle, SomebodyCanGoOn, nat_tests, step}
-use Rattle.desk_law.proofs.Walks.{one-step, walk-short, count-lt}
-use Rattle.desk_law.proofs.Waiting.{number-of, has-number}
+use Rattle.desk_law.proofs.Lemmas.{◌≡◌, refl, ℕ, zero, suc, ◌<◌, ◌&&◌, not, Bool, true, false, List, length, filter, list_any, arith, inl, inr, and_from, not_from_false, has, leads, any-at, any-some, numbers, waits_for, HasNoCycle, SomebodyCanGoOn, nat_tests, step, one-step, walk-short, count-lt, number-of, has-number}
 use Rattle.desk_law.proofs.Endings.{waited-active}
 
 -- the numbers to which waits lead from one

@@ -1,11 +1,8 @@
 -- What a supervisor keeps beside a desk: locks and requests by number, states but for their store, and one list of bytes for
 -- all; and what steps do to it.
-use Rattle.desk_law.proofs.Common.{◌≡◌, ℕ, ◌+◌, ◌==◌, not, Bool, true, List, [], Some, ap, sym, ◌∙◌, subst, inl, inr, not-true, FlatStore, IsWholeStore, Lines, Plain, On, row, after, after-whole, Desk, Active, conflicts_of, DiskWord, Counts, Going, InFlight, Fetched, fetches, touched_pages, gets, AreLinesLaid, AreAlike, over_all, requested, IsTableBut, IsState, AreStates, AreStatesBut, IsTableTold, committed_by, gone_on, row_done, IsAmong, due_to, AreConsistent, MayGoOn, IsOrderly, nat_tests, arith}
+use Rattle.desk_law.proofs.Lemmas.{◌≡◌, ℕ, ◌+◌, ◌==◌, not, Bool, true, List, [], Some, ap, sym, ◌∙◌, subst, inl, inr, not-true, FlatStore, IsWholeStore, Lines, Plain, On, row, after, after-whole, Desk, Active, conflicts_of, DiskWord, Counts, Going, InFlight, Fetched, fetches, touched_pages, gets, AreLinesLaid, AreAlike, over_all, requested, IsTableBut, IsState, AreStates, AreStatesBut, IsTableTold, committed_by, gone_on, row_done, IsAmong, due_to, AreConsistent, MayGoOn, IsOrderly, nat_tests, arith, replaced, among-replaced, among-filter, apart-turned, others, another-same, after-row}
 use Rattle.desk_law.proofs.CurrentSteps.{current-rolled, current-committed, commit-laid, current-marked}
-use Rattle.desk_law.proofs.Entries.{replaced, among-replaced, among-filter}
-use Rattle.desk_law.proofs.GoesOn.{apart-turned}
 use Rattle.desk_law.proofs.KeptTables.{kept-row, kept-mark, kept-rollback, kept-commit}
-use Rattle.desk_law.proofs.Others.{others, another-same, after-row}
 use Rattle.desk_law.proofs.ServedEffect.{got, WasServed, served-goes}
 
 module _ (store : FlatStore) (entries : List Active) (states : ℕ → Plain) (are : AreStates store entries states) where

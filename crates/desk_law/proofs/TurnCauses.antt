@@ -1,10 +1,7 @@
 -- Each end of a turn has its cause.
-use Rattle.desk_law.proofs.Common.{◌≡◌, refl, ℕ, zero, suc, ◌+◌, ◌<◌, ◌==◌, Bool, true, false, List, [], ◌∷◌, ◌++◌, length, find, Option, Some, None, arith, ap, sym, ◌∙◌, subst, eqb-true, ltb-true, brought, victim_of, Plain, Outcome, Commit, Check, row, after, Desk, Active, with_active, conflicts_of, DiskWord, ReadFailed, Unwritten, Doubt, Counts, Turning, Going, Over, Idle, Limit, Checked, Journal, Disk, Victim, Waits, Committed, CommitUnwritten, CommitDoubted, InFlight, Fetching, Fetched, Broken, Contest, Contested, Settled, Lost, attempts, attempts_at, instruction, turns, turn_of, no_counts, fetches, lines_written, asks, gets, takes_effect, contest_ends, waits_or_gets, breaks_cycles, RowIs, EndsForCause, IsOverFor, TurnsEndForCause, turn_desk, gone_on, IsAmong, IsConsistent, nat_tests, next_attempt, contest}
-use Rattle.desk_law.proofs.Entries.{found-among, new-among}
-use Rattle.desk_law.proofs.Contest.{VictimsKeep, victims-keep}
+use Rattle.desk_law.proofs.Lemmas.{◌≡◌, refl, ℕ, zero, suc, ◌+◌, ◌<◌, ◌==◌, Bool, true, false, List, [], ◌∷◌, ◌++◌, length, find, Option, Some, None, arith, ap, sym, ◌∙◌, subst, eqb-true, ltb-true, brought, victim_of, Plain, Outcome, Commit, Check, row, after, Desk, Active, with_active, conflicts_of, DiskWord, ReadFailed, Unwritten, Doubt, Counts, Turning, Going, Over, Idle, Limit, Checked, Journal, Disk, Victim, Waits, Committed, CommitUnwritten, CommitDoubted, InFlight, Fetching, Fetched, Broken, Contest, Contested, Settled, Lost, attempts, attempts_at, instruction, turns, turn_of, no_counts, fetches, lines_written, asks, gets, takes_effect, contest_ends, waits_or_gets, breaks_cycles, RowIs, EndsForCause, IsOverFor, TurnsEndForCause, turn_desk, gone_on, IsAmong, IsConsistent, nat_tests, next_attempt, contest, found-among, new-among, VictimsKeep, victims-keep, went}
 use Rattle.desk_law.proofs.ContestRounds.{asker-left}
 use Rattle.desk_law.proofs.ConsistentLaw.{instruction-consistent}
-use Rattle.desk_law.proofs.LeftLemmas.{went}
 
 -- a page that can't be read is the last one counted
 abbrev FetchCause : DiskWord → Fetching → Type 0

@@ -1,6 +1,5 @@
 -- The loop of a turn: what it keeps, and its ends.
-use Rattle.desk_law.proofs.Common.{◌≡◌, refl, ℕ, zero, suc, ◌≤◌, ◌==◌, find, Some, arith, ◌∙◌, Desk, Active, DiskWord, Counts, Turning, Going, Over, Ending, Limit, InFlight, instruction, turns, commits, Reads, IsAmong, IsOrderly, nat_tests}
-use Rattle.desk_law.proofs.Entries.{found-among}
+use Rattle.desk_law.proofs.Lemmas.{◌≡◌, refl, ℕ, zero, suc, ◌≤◌, ◌==◌, find, Some, arith, ◌∙◌, Desk, Active, DiskWord, Counts, Turning, Going, Over, Ending, Limit, InFlight, instruction, turns, commits, Reads, IsAmong, IsOrderly, nat_tests, found-among}
 
 -- a turn, from wherever it began, is one of so many instructions from here
 pub record IsTurning (begins : DiskWord → Turning) (number left : ℕ) (desk : Desk) (counts : Counts) : Type 0 where

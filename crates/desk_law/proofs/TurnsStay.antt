@@ -1,11 +1,7 @@
 -- A turn leaves a desk orderly.
-use Rattle.desk_law.proofs.Common.{◌≡◌, refl, ℕ, zero, suc, ◌+◌, ◌≤◌, ◌==◌, Bool, true, false, List, [], ◌∷◌, ◌++◌, length, find, Option, Some, None, arith, sym, ◌∙◌, subst, eqb-true, eq-eqb, both_ways, ltb-false, none-some, size, Lines, Plain, Outcome, On, Commit, Check, row, after, Desk, Active, with_active, rolled_back, wanted, conflicts_of, DiskWord, Counts, Turning, Going, Over, Ending, Idle, InFlight, Fetching, Fetched, Broken, Contest, Contested, Settled, Lost, attempts, attempts_at, instruction, turns, limited, is_over_limit, lines_written, fetched_first, fetches_touched, asks, gets, goes_on, breaks, takes_effect, commits, contest_ends, waits_or_gets, refused_pages, gone_on, IsAmong, IsActive, IsOrderly, touched_of, MayGoOn, nat_tests, next_attempt}
-use Rattle.desk_law.proofs.Entries.{among-found, none-found, new-among}
-use Rattle.desk_law.proofs.Contest.{contending, rolled-consistent, breaks-all, Came}
-use Rattle.desk_law.proofs.GoesOn.{IsGranted, grants-held, row-goes-on, marked-contending, length-replaced}
+use Rattle.desk_law.proofs.Lemmas.{◌≡◌, refl, ℕ, zero, suc, ◌+◌, ◌≤◌, ◌==◌, Bool, true, false, List, [], ◌∷◌, ◌++◌, length, find, Option, Some, None, arith, sym, ◌∙◌, subst, eqb-true, eq-eqb, both_ways, ltb-false, none-some, size, Lines, Plain, Outcome, On, Commit, Check, row, after, Desk, Active, with_active, rolled_back, wanted, conflicts_of, DiskWord, Counts, Turning, Going, Over, Ending, Idle, InFlight, Fetching, Fetched, Broken, Contest, Contested, Settled, Lost, attempts, attempts_at, instruction, turns, limited, is_over_limit, lines_written, fetched_first, fetches_touched, asks, gets, goes_on, breaks, takes_effect, commits, contest_ends, waits_or_gets, refused_pages, gone_on, IsAmong, IsActive, IsOrderly, touched_of, MayGoOn, nat_tests, next_attempt, among-found, none-found, new-among, contending, rolled-consistent, breaks-all, Came, IsGranted, grants-held, row-goes-on, marked-contending, length-replaced, went}
 use Rattle.desk_law.proofs.Endings.{granted-rolled, granted-commits, granted-closes}
 use Rattle.desk_law.proofs.Instructions.{From, NoRowDone, Did, ContestDid, left-before, rolled-done, marked-before, marked-from, breaks-did}
-use Rattle.desk_law.proofs.LeftLemmas.{went}
 
 -- an ending that isn't idle
 abbrev pub WasBusy : Ending → Type 0

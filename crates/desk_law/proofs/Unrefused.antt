@@ -1,8 +1,6 @@
 -- A row of which no entry refuses a line.
-use Rattle.desk_law.proofs.Common.{◌≡◌, refl, ℕ, ◌<◌, true, List, [], length, Some, arith, ap, subst, is_fine_page, has, page_of_line, Plain, after, all_of, touched-below, Desk, Active, Grant, conflicts_of, wanted, gets, granted, refused_pages, IsAmong, ArePermitted, IsOrderly, DiskWord, Counts, next_attempt, nat_tests, counts_refused, UnrefusedAsksNothing}
+use Rattle.desk_law.proofs.Lemmas.{◌≡◌, refl, ℕ, ◌<◌, true, List, [], length, Some, arith, ap, subst, is_fine_page, has, page_of_line, Plain, after, all_of, touched-below, Desk, Active, Grant, conflicts_of, wanted, gets, granted, refused_pages, IsAmong, ArePermitted, IsOrderly, DiskWord, Counts, next_attempt, nat_tests, counts_refused, UnrefusedAsksNothing, orderly, permitted-held, held-free}
 use Rattle.desk_law.proofs.Granted.{granted-permits}
-use Rattle.desk_law.proofs.Entries.{orderly}
-use Rattle.desk_law.proofs.Permitted.{permitted-held, held-free}
 
 module _ (desk : Desk) (entry : Active) (now : Plain) (is : IsOrderly desk) (among : IsAmong desk.active entry)
     (at : after entry.runs.program entry.runs.args desk.committed entry.rows ≡ Some now) (none : refused_pages (next_attempt desk entry now) desk ≡ []) where
