@@ -1,14 +1,11 @@
 -- What one event keeps, how it goes on, and the numbers in its lines.
-use Rattle.schedule_replay.proofs.Common.{refl, ◌≡◌, ℕ, ◌+◌, ◌*◌, ◌≤◌, List, [], ◌∷◌, sym, ap, ◌∙◌, subst, arith, true, false, Bool, Option, Result, Ok, IfOk, Failed, Ghosts, IsSure, FewerLater, held_of, leaves_held, Program, Event, Begun, Turn, TurnEnd, Stored, Reopened, begun_told, turn_told, stored_told, reopened_told, turn_closes, turn_fails, stored_closes, stored_fails, reopened_closes, reopened_fails, HasNumbers, StoredNumber, IsReopened, TookEvent, Desk, numbers, Fine, CallsStore, FailsCounted, Fixed, StaysShut, HoldsStore, IsDamage, WritesMore, writes_due, ReportLine, happening_lines, number_after, step, AreNames, Told, ToldAfterEnd, Answered, ToldAfter, GoesBy, Going, Puts, end_number, stored_number, reopened_number, WasStep, WentBy, view_by, going_if, going_begun, going_by, is_closed, is_damaged, nat_tests, result_and, opening, opening_of, span, AreLinesOf}
+use Rattle.schedule_replay.proofs.Common.{refl, ◌≡◌, ℕ, ◌+◌, ◌*◌, ◌≤◌, List, [], ◌∷◌, sym, ap, ◌∙◌, subst, arith, true, false, Bool, Option, Result, Ok, IfOk, Failed, Ghosts, IsSure, FewerLater, held_of, leaves_held, Program, Event, Begun, Turn, TurnEnd, Stored, Reopened, begun_told, turn_told, stored_told, reopened_told, turn_closes, turn_fails, stored_closes, stored_fails, reopened_closes, reopened_fails, HasNumbers, StoredNumber, IsReopened, TookEvent, Desk, numbers, Fine, CallsStore, FailsCounted, Fixed, StaysShut, HoldsStore, IsDamage, WritesMore, writes_due, ReportLine, happening_lines, number_after, step, AreNames, Told, ToldAfterEnd, Answered, ToldAfter, GoesBy, Going, Puts, end_number, stored_number, reopened_number, WasStep, WentBy, view_by, going_if, going_begun, going_by, is_closed, is_damaged, nat_tests, result_and, opening, opening_of, span, AreLinesOf, Deed, EventAsks, AsksSo, OnlyOpens}
 use Rattle.desk.specs.declared.event.Event.TheVariants as event
 use Rattle.desk.specs.declared.answers.Begun.TheVariants as begun
 use Rattle.desk.specs.declared.answers.TurnEnd.TheVariants as end
 use Rattle.desk.specs.declared.answers.Stored.TheVariants as stored
 use Rattle.desk.specs.declared.answers.Reopened.TheVariants as reopened
-use Rattle.desk.specs.Asked.{EventAsks}
 use Rattle.outside.proofs.DeedLemmas.{since_none}
-use Rattle.outside.specs.Deeds.{Deed}
-use Rattle.outside.specs.Runs.{AsksSo, OnlyOpens}
 use Rattle.schedule_replay.proofs.RunAsksLemmas.{begun_silent}
 use Rattle.desk.specs.declared.supervisor.Supervisor as desk
 use Rattle.schedule_replay.specs.declared.events.Going.TheVariants as going

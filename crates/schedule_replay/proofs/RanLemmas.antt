@@ -1,13 +1,11 @@
 -- The runs of a supervisor, one event after another.
-use Rattle.schedule_replay.proofs.Common.{◌≡◌, ℕ, ◌+◌, ◌<◌, List, [], ◌∷◌, ◌++◌, length, map, get_or, take, drop, refl, sym, ap, ◌∙◌, subst, arith, length-append, append-nil, append_assoc, inl, inr, true, false, Option, Result, Ok, IsErr, IfOk, flat_map, map-append, take_more, take-append-drop, flat_map-append, Failed, Ghosts, Prints, Elapses, IsSure, FewerLater, Leaves, held_of, told_is, leaves_held, stands, elapses-trans, leaves_on, prints_same, prints_on, Program, Event, Desk, DiskWord, Doubt, run, faulted, OpenBeforeEach, ReportLine, line_text, event_lines, commits_seen, IsLeft, IsStage, ArePlain, seen_lines, seen_all, AreNames, Grew, run_grew, run_plain, run_on, open_on, lines_on, faulted_on, left_none, left_more, left_behind, stage_behind, stage_more, stage_none, PutsTimes, shown_on, Ran, PrintsEarlier, InDoubt, run_text, Fixed, Going, RanSome, RanTo, is_closed, is_damaged, nat_tests, opening, opening_of, span}
+use Rattle.schedule_replay.proofs.Common.{◌≡◌, ℕ, ◌+◌, ◌<◌, List, [], ◌∷◌, ◌++◌, length, map, get_or, take, drop, refl, sym, ap, ◌∙◌, subst, arith, length-append, append-nil, append_assoc, inl, inr, true, false, Option, Result, Ok, IsErr, IfOk, flat_map, map-append, take_more, take-append-drop, flat_map-append, Failed, Ghosts, Prints, Elapses, IsSure, FewerLater, Leaves, held_of, told_is, leaves_held, stands, elapses-trans, leaves_on, prints_same, prints_on, Program, Event, Desk, DiskWord, Doubt, run, faulted, OpenBeforeEach, ReportLine, line_text, event_lines, commits_seen, IsLeft, IsStage, ArePlain, seen_lines, seen_all, AreNames, Grew, run_grew, run_plain, run_on, open_on, lines_on, faulted_on, left_none, left_more, left_behind, stage_behind, stage_more, stage_none, PutsTimes, shown_on, Ran, PrintsEarlier, InDoubt, run_text, Fixed, Going, RanSome, RanTo, is_closed, is_damaged, nat_tests, opening, opening_of, span, happened, RunAsks, Happening}
 use Rattle.desk.specs.declared.supervisor.Supervisor as desk
 use Rattle.schedule_replay.proofs.CountLemmas.{on_ok_as}
 use Rattle.schedule_replay.proofs.PutsLemmas.{PrintedNow, done, no_time, times_on, shown_after, begins_none, begins_on, begins_behind, printed_none}
 use Rattle.schedule_replay.proofs.WentLemmas.{last_is}
 use Rattle.schedule_replay.proofs.RanToLemmas.{ShownTold, to_none, to_on}
 use Rattle.schedule_replay.proofs.RunAsksLemmas.{happened_on, run_asks_none, run_asks_on}
-use Rattle.schedule_replay.specs.Below.{Happening}
-use Rattle.schedule_replay.specs.RunAsks.{happened, RunAsks}
 
 -- what is printed of earlier events, with more events behind
 earlier_on : {T U : Type 0} (old mid new : Option (List ℕ)) (text other : List (Event × DiskWord) → List ℕ) (one two : List (Event × DiskWord)) (value : T) (bytes : List ℕ) (result : Result U Failed)

@@ -1,22 +1,16 @@
 -- The report of a run, from its parts; and lines of answers, one after another, whatever stands on the disk.
-use Rattle.schedule_replay.proofs.Common.{◌≡◌, ℕ, List, [], ◌∷◌, ◌++◌, length, map, refl, sym, ap, ◌∙◌, subst, inl, inr, arith, append-nil, IsSome, Option, true, false, Result, Ok, IsErr, IfOk, OnOk, flat_map, Failed, Ghosts, Prints, IsSure, Elapses, Leaves, held_of, prints_same, prints_well, prints_on, prints_stop, leaves_held, elapses-trans, leaves_on, Program, Event, Desk, DiskWord, ReportLine, Open, Left, line_text, number_after, closing_lines, report, event_lines, run, faulted, commits_seen, IsLeft, IsStage, ArePlain, plain_on, commits_in, commits_on, seen_all, AreNames, Grew, run_grew, run_plain, report_parts, lines_end, left_none, left_more, stage_more, stage_none, Going, Puts, PutsTimes, BeginsWith, shown_on, Ran, HasOpened, PrintsEarlier, run_text, RanSome, Reports, Fixed, is_closed, nat_tests, opening, opening_of, span, ◌+◌, ◌<◌, get_or, take, append_assoc, take_more, flat_map-append, Bool, prints_broken, Begun, Turn, TurnEnd, Stored, Reopened, begun_told, turn_told, stored_told, reopened_told, Happening, happening_lines, CallsStore, Header, EntersOrder}
+use Rattle.schedule_replay.proofs.Common.{◌≡◌, ℕ, List, [], ◌∷◌, ◌++◌, length, map, refl, sym, ap, ◌∙◌, subst, inl, inr, arith, append-nil, IsSome, Option, true, false, Result, Ok, IsErr, IfOk, OnOk, flat_map, Failed, Ghosts, Prints, IsSure, Elapses, Leaves, held_of, prints_same, prints_well, prints_on, prints_stop, leaves_held, elapses-trans, leaves_on, Program, Event, Desk, DiskWord, ReportLine, Open, Left, line_text, number_after, closing_lines, report, event_lines, run, faulted, commits_seen, IsLeft, IsStage, ArePlain, plain_on, commits_in, commits_on, seen_all, AreNames, Grew, run_grew, run_plain, report_parts, lines_end, left_none, left_more, stage_more, stage_none, Going, Puts, PutsTimes, BeginsWith, shown_on, Ran, HasOpened, PrintsEarlier, run_text, RanSome, Reports, Fixed, is_closed, nat_tests, opening, opening_of, span, ◌+◌, ◌<◌, get_or, take, append_assoc, take_more, flat_map-append, Bool, prints_broken, Begun, Turn, TurnEnd, Stored, Reopened, begun_told, turn_told, stored_told, reopened_told, Happening, happening_lines, CallsStore, Header, EntersOrder, happened, IsNotAfter, IsToldOf, Enters, AreLinesOf, AreOfEnd, TellsLines, TellsBy, TellsSome, TellsReport, way_of, Opening, Interval, is_damaged, Replays}
 use Rattle.std.proofs.lemmas.Result.{IfOk-weaker}
 use Rattle.schedule_replay.proofs.PutsLemmas.{no_time, times_on, shown_after, begins_none, begins_same, begins_on, begins_behind, done, printed_none}
 use Rattle.schedule_replay.proofs.WentLemmas.{Laws, sure_puts, image_is}
 use Rattle.schedule_replay.proofs.RanLemmas.{leaves_join, seen_behind, seen_each}
 use Rattle.schedule_replay.proofs.RanToLemmas.{to_later, to_none, to_since}
 use Rattle.std.proofs.lemmas.Bool.{both_ways}
-use Rattle.schedule_replay.specs.Told.{IsToldOf, Enters, AreLinesOf, AreOfEnd, TellsLines, TellsBy, TellsSome, TellsReport}
 use Rattle.schedule_replay.specs.declared.events.Replayed.{Replayed}
-use Rattle.outside.specs.Moments.{IsNotAfter}
 use Rattle.schedule_replay.proofs.RunAsksLemmas.{run_asks_later, run_asks_since}
-use Rattle.schedule_replay.specs.RunAsks.{happened}
 use Rattle.desk.specs.declared.supervisor.Supervisor as desk
 use Rattle.schedule_replay.specs.declared.events.Going.TheVariants as going
 use Rattle.schedule_replay.specs.declared.events.Replayed.TheVariants as replayed
-use Rattle.schedule_replay.specs.Answered.{way_of}
-use Rattle.schedule_replay.specs.Replays.{is_damaged, Replays}
-use Rattle.schedule_replay.specs.Runs.{Opening, Interval}
 
 -- nothing is said of success where it failed
 times_failed : {T : Type 0} (P : Type 0) (result : Result T Failed) → IsErr result → OnOk result P

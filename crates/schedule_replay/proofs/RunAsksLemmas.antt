@@ -1,11 +1,5 @@
 -- What runs ask of the disk, one after another.
-use Rattle.schedule_replay.proofs.Common.{◌≡◌, List, [], ◌∷◌, ◌++◌, ℕ, arith, refl, sym, ◌∙◌, ap, subst, Option, unwrap_or, Ghosts, held_of, Program, Event, Desk, DiskWord, Happening, Step, Turned, run, step, Begun, begun_told}
-use Rattle.desk.specs.Asked.{EventAsks}
-use Rattle.outside.proofs.DeedLemmas.{since_none}
-use Rattle.outside.proofs.Runs.{not_after}
-use Rattle.outside.specs.Deeds.{Deed, Since}
-use Rattle.outside.specs.Moments.{IsNotAfter}
-use Rattle.schedule_replay.specs.RunAsks.{happened, RunAsks}
+use Rattle.schedule_replay.proofs.Common.{◌≡◌, List, [], ◌∷◌, ◌++◌, ℕ, arith, refl, ◌∙◌, ap, subst, Option, unwrap_or, Ghosts, held_of, Program, Event, Desk, DiskWord, Happening, run, step, Begun, begun_told, happened, RunAsks, IsNotAfter, Deed, Since, EventAsks, not_after}
 
 -- the happenings of one run and then another
 pub happened_on : (programs : List Program) (one two : List (Event × DiskWord)) (desk : Desk) → happened programs (one ++ two) desk ≡ happened programs one desk ++ happened programs two (run programs one desk)

@@ -1,5 +1,4 @@
-use Rattle.schedule_replay.proofs.Lemmas.{PrintedNow, puts_on, puts_stop, puts_same, cycles_of}
-use Rattle.schedule_replay.proofs.Common.{◌≡◌, ℕ, List, [], ◌∷◌, ◌++◌, rules, ap, Result, Ok, flat_map, Failed, Ghosts, FewerLater, Cycle, Turn as Answer, counts_told, ending_told, cycle_lines, ending_lines, end_number, Puts}
+use Rattle.schedule_replay.proofs.Lemmas.{PrintedNow, puts_on, puts_stop, puts_same, cycles_of, ◌≡◌, ℕ, List, [], ◌∷◌, ◌++◌, rules, ap, Result, Ok, flat_map, Failed, Ghosts, FewerLater, Cycle, Turn as Answer, counts_told, ending_told, cycle_lines, ending_lines, end_number, Puts}
 use Rattle.desk.specs.ReportLines.{ReportLine, Turn}
 use Rattle.schedule_replay.proofs.answer_lines.put_counted.Goals as goal
 

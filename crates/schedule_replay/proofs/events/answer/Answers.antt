@@ -1,6 +1,4 @@
-use Rattle.schedule_replay.proofs.ReportLemmas.{enters_begun, enters_reopened, enters_stored, lines_one}
-use Rattle.schedule_replay.proofs.Lemmas.{refl, map, ap, ◌∙◌, arith, asks_none, Stored, begun_told, stored_told, reopened_told, stored_closes, stored_fails, happening_lines, stored_number, reopened_number, going_begun, going_if, going_by, common_steps, Told, after_begin, after_other, reopened_closes, names_are, begun_closes, if_closes, crash_closes, stored_shut, undamaged, undamaged_begun, undamaged_if, store_asked, goes_begin, goes_if, goes_crash, begin_step, checkpoint_step, crash_step, went_event}
-use Rattle.schedule_replay.proofs.Common.{nat_tests}
+use Rattle.schedule_replay.proofs.Lemmas.{refl, map, ap, ◌∙◌, arith, asks_none, Stored, begun_told, stored_told, reopened_told, stored_closes, stored_fails, happening_lines, stored_number, reopened_number, going_begun, going_if, going_by, common_steps, Told, after_begin, after_other, reopened_closes, names_are, begun_closes, if_closes, crash_closes, stored_shut, undamaged, undamaged_begun, undamaged_if, store_asked, goes_begin, goes_if, goes_crash, begin_step, checkpoint_step, crash_step, went_event, enters_begun, enters_reopened, enters_stored, lines_one, nat_tests}
 use Rattle.desk.specs.declared.event.Event.TheVariants as event
 use Rattle.schedule_replay.proofs.events.answer.Goals as goal
 

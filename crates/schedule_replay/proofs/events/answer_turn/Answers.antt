@@ -1,5 +1,4 @@
-use Rattle.schedule_replay.proofs.ReportLemmas.{enters_turn, lines_one}
-use Rattle.schedule_replay.proofs.Lemmas.{refl, ℕ, List, map, ap, ◌∙◌, TurnEnd, turn_told, turn_closes, turn_fails, happening_lines, end_number, going_if, Told, after_turn, puts_same, names_are, if_closes, turn_shut, undamaged_if, goes_if, turn_step, went_event}
+use Rattle.schedule_replay.proofs.Lemmas.{refl, ℕ, List, map, ap, ◌∙◌, TurnEnd, turn_told, turn_closes, turn_fails, happening_lines, end_number, going_if, Told, after_turn, puts_same, names_are, if_closes, turn_shut, undamaged_if, goes_if, turn_step, went_event, enters_turn, lines_one}
 use Rattle.desk.specs.declared.event.Event.TheVariants as event
 use Rattle.schedule_replay.proofs.events.answer_turn.Goals as goal
 

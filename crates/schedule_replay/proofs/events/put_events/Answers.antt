@@ -1,7 +1,6 @@
 use Rattle.std.proofs.lemmas.Bool.{both_ways}
-use Rattle.schedule_replay.proofs.Lemmas.{common_steps, ◌≡◌, [], ◌+◌, length, map, take, refl, sym, ap, ◌∙◌, arith, rules, append-nil, Ok, take_all, Fixed, Begin, is_closed, prints_broken, prints_well, answered_all, answered_none, ready_next, answered_more, answered_well, answered_broken, goes_since, shut_asked, shut_unasked, names_are, if_ok_broken, not_on_closed, nat_tests}
+use Rattle.schedule_replay.proofs.Lemmas.{common_steps, ◌≡◌, [], ◌+◌, length, map, take, refl, sym, ap, ◌∙◌, arith, rules, append-nil, Ok, take_all, Fixed, Begin, is_closed, prints_broken, prints_well, answered_all, answered_none, ready_next, answered_more, answered_well, answered_broken, goes_since, shut_asked, shut_unasked, names_are, if_ok_broken, not_on_closed, nat_tests, tells_broken, tells_more, tells_none, tells_well}
 use Rattle.schedule_replay.specs.declared.events.Going.TheVariants as going
-use Rattle.schedule_replay.proofs.ReportLemmas.{tells_broken, tells_more, tells_none, tells_well}
 use Rattle.schedule_replay.proofs.RanLemmas.{ran_as, ran_further, ran_last, ran_none}
 use Rattle.schedule_replay.proofs.events.put_events.Goals as goal
 

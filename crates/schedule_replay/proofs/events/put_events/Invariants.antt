@@ -1,6 +1,4 @@
-use Rattle.schedule_replay.proofs.Lemmas.{◌≡◌, map, take, true, false, IsSure, held_of, Desk, Answered, Ran, done}
-use Rattle.schedule_replay.proofs.Common.{opening_of, span}
-use Rattle.schedule_replay.specs.Told.{TellsLines}
+use Rattle.schedule_replay.proofs.Lemmas.{◌≡◌, map, take, true, false, IsSure, held_of, Desk, Answered, Ran, done, opening_of, span, TellsLines}
 use Rattle.schedule_replay.proofs.events.put_events.Given as goal
 
 -- the events so far were asked, and their lines put; none of one that was closed before; they were run from where the bytes are sure and a desk is shown

@@ -1,7 +1,5 @@
-use Rattle.schedule_replay.proofs.Lemmas.{common_steps, ◌≡◌, [], map, refl, rules, arith, ap, Ok, false, is_closed, puts_broken, puts_well, answered_on, answered_puts, goes_since, Laws, names_are, if_ok_broken, reports_unopened, some_ran, reports_stopped, reports_shut, reports_ended, nat_tests}
+use Rattle.schedule_replay.proofs.Lemmas.{common_steps, ◌≡◌, [], map, refl, rules, arith, ap, Ok, false, is_closed, puts_broken, puts_well, answered_on, answered_puts, goes_since, Laws, names_are, if_ok_broken, reports_unopened, some_ran, reports_stopped, reports_shut, reports_ended, nat_tests, answered_broken, answered_then, answered_well, not_on_closed, some_broken, told_ended, told_stopped, told_unopened}
 use Rattle.schedule_replay.specs.declared.events.Going.TheVariants as going
-use Rattle.schedule_replay.proofs.AnsweredLemmas.{answered_broken, answered_then, answered_well}
-use Rattle.schedule_replay.proofs.ReportLemmas.{not_on_closed, some_broken, told_ended, told_stopped, told_unopened}
 use Rattle.schedule_replay.proofs.events.put_report.Given as given
 use Rattle.schedule_replay.proofs.events.put_report.Goals as goal
 
