@@ -1,15 +1,11 @@
 -- What one deed more adds to the crash images of a file, and what one put more prints.
 use Rattle.outside.specs.Deeds.{broken, Carries}
-use Rattle.real_files.proofs.Common.{◌≡◌, ◌⊎◌, inl, inr, ⊎_elim, ℕ, ◌+◌, ◌≤◌, List, [], ◌∷◌, ◌++◌, length, refl, sym, ◌∙◌, ap, subst, arith, length-append, written, Torn, Passes, ImagesFollow, AddsNoImage, Failed, Deed, Wrote, Tore, Synced, Unsynced, file_by, file_images_by, file_after, file_images_at, deed_failed, StopsAtFailure, take, Some, IsErr, Result, Ok, Err, Prints}
+use Rattle.real_files.proofs.Common.{◌≡◌, ◌⊎◌, inl, inr, ⊎_elim, ℕ, ◌+◌, ◌≤◌, List, [], ◌∷◌, ◌++◌, length, refl, sym, ◌∙◌, ap, subst, arith, length-append, written, Torn, Passes, ImagesFollow, AddsNoImage, Failed, Deed, Wrote, Tore, Synced, Unsynced, file_by, file_images_by, file_after, file_images_at, deed_failed, StopsAtFailure, take, Some, IsErr, Result, Ok, Err, Prints, printed_of, marks_of, bytes_put, deed_number, append_assoc, take_all, length-drop, take-append_seam, take-add}
 use Rattle.std.specs.Prelude.{◌-◌, count_by, take, drop, Bool, false, cond, Result, Ok, Err, OnOk, IsErr, is_err, Some}
 use Rattle.outside.specs.Bytes.{Writes}
-use Rattle.std.proofs.Common.{append_assoc}
-use Rattle.std.proofs.lemmas.List.{take_all, length-drop}
 use Rattle.std.proofs.lemmas.List.Sums.{sum_by-append}
-use Rattle.std.proofs.Math.Seq.{take-append_seam, take-add}
 use Rattle.outside.proofs.Torn.{untouched, torn_by_written}
 use Rattle.real_files.specs.DeedLaws.{past, stays, newest, file_left_now, file_after-append}
-use Rattle.real_files.specs.Shown.{printed_of, marks_of, bytes_put, deed_number}
 use Rattle.real_files.specs.ShownLaws.{printed_of-more, marks_of-more}
 use Rattle.std.proofs.lemmas.Bool.{cases_lt}
 
@@ -22,13 +18,6 @@ moment_of told = length told.1
 
 abbrev pub images_of : Told → ℕ → List ℕ → Type 0
 images_of told = file_images_at told.0 told.1
-
--- where nothing was done
-pub adds_same : (first : List ℕ) (deeds : List Deed) (first' : List ℕ) (deeds' : List Deed) → first' ≡ first → deeds' ≡ deeds → AddsNoImage moment_of images_of (first, deeds) (first', deeds')
-adds_same first deeds first' deeds' is_first is_deeds t image since by_now left =
-    let is_now : t ≡ length deeds = omega (arith, since, by_now, ap length is_deeds) in
-    let was = subst (λ (these : List ℕ). file_images_at these deeds t image) is_first (subst (λ (these : List Deed). file_images_at first' these t image) is_deeds left) in
-    subst (λ (n : ℕ). file_images_at first deeds n image) is_now was
 
 module _ (first held : List ℕ) (deeds : List Deed) (replayed : held ≡ file_after first deeds) (first' : List ℕ) (deeds' : List Deed) (deed : Deed) (is_first : first' ≡ first) (is_deeds : deeds' ≡ deeds ++ deed ∷ []) where
   held_now : file_images_at first deeds (length deeds) held

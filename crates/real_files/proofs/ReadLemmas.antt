@@ -1,8 +1,5 @@
 -- From what was read of an input so far to what a source has of it.
-use Rattle.std.proofs.Common.{◌≡◌, ◌≤◌, ℕ, List, ◌++◌, length, take, Bool, true, false, Option, None, Some, IfSome, sym, ◌∙◌, ap, subst, append_assoc, append-nil}
-use Rattle.std.proofs.lemmas.List.{take_all}
-use Rattle.std.proofs.Math.Seq.{take-append_seam}
-use Rattle.std.specs.Io.KnownBytes.{Consumes, Keeps, IsAtEnd}
+use Rattle.real_files.proofs.Common.{◌≡◌, ◌≤◌, ℕ, List, ◌++◌, length, take, Bool, true, false, Option, None, Some, IfSome, sym, ◌∙◌, ap, subst, append_assoc, append-nil, take_all, Consumes, IsAtEnd, take-append_seam}
 use Rattle.real_files.specs.Found.{IsReadFrom}
 
 first_of : (known known' : Option (List ℕ)) (bytes : List ℕ) → Consumes known known' bytes → IfSome known (λ text. bytes ≡ take (length bytes) text)
@@ -22,13 +19,6 @@ read_on None known' last bytes piece so_far now = tt
 read_on (Some text) None last bytes piece so_far now = absurd so_far
 read_on (Some text) (Some rest) None bytes piece so_far now = absurd now
 read_on (Some text) (Some rest) (Some left) bytes piece so_far now = so_far ∙ ap (λ (those : List ℕ). bytes ++ those) now ∙ sym (append_assoc bytes piece left)
-
--- a read that failed took nothing
-pub read_none : (known known' last : Option (List ℕ)) (bytes : List ℕ) → Consumes known known' bytes → Keeps known' last → Consumes known last bytes
-read_none None known' last bytes so_far kept = tt
-read_none (Some text) None last bytes so_far kept = absurd so_far
-read_none (Some text) (Some rest) None bytes so_far kept = absurd kept
-read_none (Some text) (Some rest) (Some left) bytes so_far kept = so_far ∙ ap (λ (those : List ℕ). bytes ++ those) (sym kept)
 
 module _ (known known' : Option (List ℕ)) (bytes : List ℕ) (most : ℕ) (few : length bytes ≤ most) (so_far : Consumes known known' bytes) where
   -- a read failed

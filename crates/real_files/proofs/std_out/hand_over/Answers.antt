@@ -1,6 +1,5 @@
-use Rattle.real_files.proofs.Common.{arith}
+use Rattle.real_files.proofs.Common.{arith, printed_of}
 use Rattle.real_files.proofs.DeedSteps.{took_more}
-use Rattle.real_files.specs.Shown.{printed_of}
 use Rattle.real_files.proofs.std_out.hand_over.Goals as goal
 
 pub loop-preserved : goal.loop-preserved

@@ -1,5 +1,4 @@
-use Rattle.real_files.proofs.Common.{◌≡◌, ◌≤◌, ◌++◌, length, take}
-use Rattle.real_files.specs.Shown.{printed_of}
+use Rattle.real_files.proofs.Common.{◌≡◌, ◌≤◌, ◌++◌, length, take, printed_of}
 use Rattle.real_files.proofs.std_out.hand_over.Given as goal
 
 -- no more was taken than there is, and that was handed over

@@ -1,6 +1,4 @@
-use Rattle.std.specs.Prelude.{[], ◌∷◌, Some}
-use Rattle.real_files.proofs.Common.{refl, Synced}
-use Rattle.outside.proofs.DeedLemmas.{carries_err, some_none}
+use Rattle.real_files.proofs.Common.{refl, Synced, [], ◌∷◌, Some, carries_err, some_none}
 use Rattle.real_files.proofs.absent_disk.AbsentDiskDisk.sync.Goals as goal
 
 pub returns-clause-deeds : goal.returns-clause-deeds

@@ -1,6 +1,4 @@
-use Rattle.std.specs.Prelude.{[], ◌∷◌, Some}
-use Rattle.real_files.proofs.Common.{refl, Wrote}
-use Rattle.outside.proofs.DeedLemmas.{carries_err, some_none}
+use Rattle.real_files.proofs.Common.{refl, Wrote, [], ◌∷◌, Some, carries_err, some_none}
 use Rattle.real_files.proofs.absent_disk.AbsentDiskDisk.write_at.Goals as goal
 
 pub returns-clause-deeds : goal.returns-clause-deeds

@@ -1,6 +1,5 @@
 -- An empty body. The borrow is opened and closed at another ghost value.
-use Rattle.real_files.proofs.Common.{Ura, Val, vunit, vptr, SProp, ent, sep, emp, via, fst∗, id⊢, Memory, Routine, Calls, Loops, WpFn, Tables, Logic, Fun, ‵, ◌⊛◌, ◌$◌, ◌∵◌, !, qed, by, move, keep, drop, use1, split, join, fsplit, fsplit3, fjoin, fjoin3, feq_i, suffices, frame, done, unit_lit, of_opd, returns, enter, alloc_all, pass_all, free_all, look_at, sets, WpFn-mono, opens, closes, on_entry, Meets, triple_of, entered, FileTrace, stay_none_slice, Goes-none_slice, ◌<◌, ◌^◌, ◌++◌, length}
-use Rattle.std.proofs.Common.{ℕ, List, [], ◌∷◌, refl, MutBor}
+use Rattle.real_files.proofs.Common.{Ura, Val, vunit, vptr, SProp, ent, sep, emp, via, fst∗, id⊢, Memory, Routine, Calls, Loops, WpFn, Tables, Logic, Fun, ‵, ◌⊛◌, ◌$◌, ◌∵◌, !, qed, by, move, keep, drop, use1, split, join, fsplit, fsplit3, fjoin, fjoin3, feq_i, suffices, frame, done, unit_lit, of_opd, returns, enter, alloc_all, pass_all, free_all, look_at, sets, WpFn-mono, opens, closes, on_entry, Meets, triple_of, entered, FileTrace, stay_none_slice, Goes-none_slice, ◌<◌, ◌^◌, ◌++◌, length, deed_of, ℕ, List, [], ◌∷◌, refl, MutBor, says, Stays, stay_ref, walk_of, AllGo, Goes-ref, Walks, ends_at, walked, walk_Meets}
 use mir.Syntax.{named}
 use base.Fml.{GName, Lft, Share, ftrue, flft, fobs, fbor}
 use contract.Running.{tables, tables_of}
@@ -9,8 +8,6 @@ use denote.RattleType.{owns}
 use denote.Memory.{mem}
 use denote.Ref.{MutRef, mut_vals, mut_Tells, Bor}
 use denote.Signature.{plain}
-use denote.Triple.Walked.{says, Stays, stay_ref, walk_of, AllGo, Goes-ref, Walks, ends_at, walked, walk_Meets}
-use Rattle.real_files.specs.Deeds.{deed_of}
 use Rattle.real_files.specs.contracts.file_trace.FileTrace as T
 use Rattle.real_files.specs.contracts.file_trace.FileTrace.note.Key.{name as #it}
 use Rattle.real_files.specs.contracts.file_trace.FileTrace.note as it

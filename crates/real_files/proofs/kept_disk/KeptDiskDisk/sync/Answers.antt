@@ -1,8 +1,5 @@
-use Rattle.real_files.proofs.Common.{inl, inr, refl, ap, arith, Synced, Unsynced}
-use Rattle.std.proofs.lemmas.Grind.{common_steps}
+use Rattle.real_files.proofs.Common.{inl, inr, refl, ap, arith, Synced, Unsynced, deed_failed, Some, common_steps}
 use Rattle.real_files.proofs.DeedSteps.{still_replayed, count_more, cut_one, counted, still_unfailed, still_stops, passes, sync_adds, synced_leaves}
-use Rattle.real_files.specs.Deeds.{deed_failed}
-use Rattle.std.specs.Prelude.{Some}
 use Rattle.real_files.proofs.kept_disk.KeptDiskDisk.sync.Goals as goal
 
 pub invariant_of-self-in-Ok : goal.invariant_of-self-in-Ok

@@ -1,7 +1,5 @@
-use Rattle.real_files.proofs.Common.{inl, inr, refl, ap, sym, ◌∙◌, arith, Wrote, Tore}
+use Rattle.real_files.proofs.Common.{inl, inr, refl, ap, sym, ◌∙◌, arith, Wrote, Tore, deed_failed, Some}
 use Rattle.real_files.proofs.DeedSteps.{still_replayed, count_more, cut_one, counted, still_unfailed, still_stops, write_follows, where_ok, wrote_some}
-use Rattle.real_files.specs.Deeds.{deed_failed}
-use Rattle.std.specs.Prelude.{Some}
 use Rattle.real_files.proofs.kept_disk.KeptDiskDisk.write_at.Goals as goal
 
 pub invariant_of-self-in-Ok : goal.invariant_of-self-in-Ok

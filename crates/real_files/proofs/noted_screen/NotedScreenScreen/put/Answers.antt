@@ -1,6 +1,5 @@
-use Rattle.real_files.proofs.Common.{inl, ap, Some, take, Wrote, Tore, arith}
+use Rattle.real_files.proofs.Common.{inl, ap, Some, take, Wrote, Tore, arith, deed_failed}
 use Rattle.real_files.proofs.DeedSteps.{printed_more, count_more, marks_more, marks_longer, prints_some}
-use Rattle.real_files.specs.Deeds.{deed_failed}
 use Rattle.real_files.proofs.noted_screen.NotedScreenScreen.put.Goals as goal
 
 pub returns-in-Ok-clause-printed : goal.returns-in-Ok-clause-printed

@@ -1,7 +1,4 @@
-use Rattle.std.proofs.Common.{◌≡◌, ◌<◌, ◌≤◌, ◌++◌, ℕ, List, length, take, true, false, sym, ◌∙◌, ap, subst, append-nil, arith}
-use Rattle.std.proofs.lemmas.Grind.{common_steps}
-use Rattle.std.proofs.lemmas.List.{take-append-le}
-use Rattle.std.specs.Io.KnownBytes.{Consumes, ReadConsumes}
+use Rattle.real_files.proofs.Common.{◌≡◌, ◌<◌, ◌≤◌, ◌++◌, ℕ, List, length, take, true, false, sym, ◌∙◌, ap, subst, append-nil, arith, take-append-le, Consumes, ReadConsumes, common_steps}
 use Rattle.real_files.proofs.ReadLemmas.{cut_off, full, at_end, given_as, read_on}
 use Rattle.real_files.proofs.read_source.ReadSource.read.Goals as goal
 

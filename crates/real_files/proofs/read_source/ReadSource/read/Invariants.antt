@@ -1,5 +1,4 @@
-use Rattle.std.proofs.Common.{◌≤◌, length}
-use Rattle.std.specs.Io.KnownBytes.{Consumes}
+use Rattle.real_files.proofs.Common.{◌≤◌, length, Consumes}
 use Rattle.real_files.proofs.read_source.ReadSource.read.Given as goal
 
 -- what was read so far is no more than is wanted, and is what the input had in front of what it has now

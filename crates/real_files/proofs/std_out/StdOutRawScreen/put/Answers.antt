@@ -1,6 +1,4 @@
-use Rattle.real_files.proofs.Common.{◌++◌, ◌∙◌, List, ℕ, ap, arith, Wrote, Tore, take}
-use Rattle.std.proofs.lemmas.List.{take_all}
-use Rattle.real_files.specs.Shown.{printed_of}
+use Rattle.real_files.proofs.Common.{◌++◌, ◌∙◌, List, ℕ, ap, arith, Wrote, Tore, take, printed_of, take_all}
 use Rattle.real_files.proofs.DeedSteps.{put_handed}
 use Rattle.real_files.proofs.std_out.StdOutRawScreen.put.Goals as goal
 
