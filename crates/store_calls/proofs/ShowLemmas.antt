@@ -1,13 +1,11 @@
 -- Calls that ask the disk, and puts, one after another, and what printing a range of a store did.
-use Rattle.store_calls.proofs.Common.{Option, IsSome, Result, Ok, Err, div_ceil, cases_lt, drop-drop, drop-take, div-add-mod', PageSize, page_bytes, Ghosts, Failed, Prints, AsksAndPuts, OnlyAsks, OnlyOpens, FewerLater, held_of, held_same, shows_asks, shows_none, shows_on, shows_puts, stands_is, Standing, Stands, NotAStore, Damaged, stands, shown_store, IsShown, Shows, page_in, row_lines, PrintsBytes, PutsTimes, Status, AreBytesRead, HasShown, PutsBytes, PutsDone, StopsBy, bytes_standing, nat_tests, ◌≡◌, ◌≤◌, ◌<◌, ◌+◌, ◌-◌, ◌*◌, ◌/◌, ◌%◌, ⊎_elim, ℕ, List, [], ◌++◌, length, take, drop, refl, sym, ◌∙◌, ap, subst, arith, append-nil, length-append, prints_broken, prints_none, prints_on, prints_stop, prints_same, prints_unput, ◌⊎◌, inl, inr, IsTrue, unwrap_or, AreTold, bytes_at, leaves_on, Layout, start_of, FlatStore, call, Range, HasRange, IsInside, RangeShown, ShownBy, rows_of, Leaves, leaves_held, TracksStore, take-take, drop_all, take_all}
+use Rattle.store_calls.proofs.Common.{Option, IsSome, Result, Ok, Err, div_ceil, cases_lt, drop-drop, drop-take, div-add-mod', PageSize, page_bytes, Ghosts, Failed, Prints, AsksAndPuts, OnlyAsks, OnlyOpens, FewerLater, held_of, held_same, shows_asks, shows_none, shows_on, shows_puts, stands_is, Standing, Stands, NotAStore, Damaged, stands, shown_store, IsShown, Shows, page_in, row_lines, PrintsBytes, PutsTimes, Status, AreBytesRead, HasShown, PutsBytes, PutsDone, StopsBy, bytes_standing, nat_tests, ◌≡◌, ◌≤◌, ◌<◌, ◌+◌, ◌-◌, ◌*◌, ◌/◌, ◌%◌, ⊎_elim, ℕ, List, [], ◌++◌, length, take, drop, refl, sym, ◌∙◌, ap, subst, arith, append-nil, length-append, prints_broken, prints_none, prints_on, prints_stop, prints_same, prints_unput, ◌⊎◌, inl, inr, IsTrue, unwrap_or, AreTold, bytes_at, leaves_on, Layout, start_of, FlatStore, call, Range, HasRange, IsInside, RangeShown, ShownBy, rows_of, Leaves, leaves_held, TracksStore, take-take, drop_all, take_all, StoreView, status_of_open}
 use Rattle.std.proofs.Math.Seq.{take-add}
-use Rattle.store.specs.KeptStore.{StoreView}
 use Rattle.listing.proofs.RowLemmas.{rows_on}
 use Rattle.call_status.specs.declared.status.Status.TheVariants as status
 use Rattle.store.specs.declared.open_fault.OpenFault.{OpenFault}
 use Rattle.store.specs.declared.open_fault.OpenFault.TheVariants as open_fault
 use Rattle.store.specs.Faults.{IsStoreOpenFault}
-use Rattle.call_status.specs.Statuses.{status_of_open}
 
 abbrev pub went : Result (Unit {0}) Failed
 went = Ok tt

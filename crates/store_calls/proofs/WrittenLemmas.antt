@@ -1,9 +1,8 @@
 -- An image without the name of a store is none; what a torn write over the places of one leaves; and what making a store did.
-use Rattle.store_calls.proofs.Common.{◌≡◌, ◌⊎◌, inl, inr, ◌+◌, ◌<◌, ℕ, List, [], length, refl, sym, ◌∙◌, ap, subst, arith, Option, IsSome, IsTrue, Result, Ok, Err, unwrap_or, Ghosts, Failed, Prints, Torn, CallsDisk, FewerLater, OnlyAsks, held_of, elapses-trans, leaves_on, PrintsBytes, PutsTimes, call, Status, IsNoEmpty, IsOfWriting, IsStored, IsTornBy, IsWrittenWhole, ImagesTorn, Written, WrittenBy, nat_tests, IsNoStore, LeavesWhole, ⊎_elim, ◌-◌, ◌≤◌, true, ◌∷◌, ◌++◌, take, drop, length-drop, length-take, nat_eq, not, codes, replicate, slice_index, Some, cases_lt, append-nil, drop-drop, drop_all, take_all, take-append-drop, take-take, written, Field, fields, first_fault, header_of, name_field, number_at, page_size_of, segment_fields, segments_of, spare_fields, within, standing_if, IsOnTheWay, starts_with, suc, cases_Bool, false}
+use Rattle.store_calls.proofs.Common.{◌≡◌, ◌⊎◌, inl, inr, ◌+◌, ◌<◌, ℕ, List, [], length, refl, sym, ◌∙◌, ap, subst, arith, Option, IsSome, IsTrue, Result, Ok, Err, unwrap_or, Ghosts, Failed, Prints, Torn, CallsDisk, FewerLater, OnlyAsks, held_of, elapses-trans, leaves_on, PrintsBytes, PutsTimes, call, Status, IsNoEmpty, IsOfWriting, IsStored, IsTornBy, IsWrittenWhole, ImagesTorn, Written, WrittenBy, nat_tests, IsNoStore, LeavesWhole, ⊎_elim, ◌-◌, ◌≤◌, true, ◌∷◌, ◌++◌, take, drop, length-drop, length-take, nat_eq, not, codes, replicate, slice_index, Some, cases_lt, append-nil, drop-drop, drop_all, take_all, take-append-drop, take-take, written, Field, fields, first_fault, header_of, name_field, number_at, page_size_of, segment_fields, segments_of, spare_fields, within, standing_if, IsOnTheWay, starts_with, suc, cases_Bool, false, put_of, PutsOnce}
 use Rattle.outside.specs.Moments.{Elapses}
 use Rattle.store_calls.proofs.Common.{Deed, Did, DidSome, image_deeds, some_none}
 use Rattle.outside.proofs.Torn.{untouched}
-use Rattle.call_status.specs.Printed.{put_of, PutsOnce}
 use Rattle.call_status.specs.declared.status.Status.TheVariants as status
 use Rattle.std.specs.Option.{option_map}
 unfoldable use Rattle.store_format.specs.Stands.{stands}

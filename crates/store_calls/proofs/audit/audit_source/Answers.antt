@@ -1,5 +1,4 @@
-use Rattle.store_calls.proofs.Common.{rules, ℕ, List, subst, sym, IsWholeBundle, text_fails}
-use Rattle.store_calls.proofs.PromiseLemmas.{audit_ends}
+use Rattle.store_calls.proofs.Lemmas.{rules, ℕ, List, subst, sym, IsWholeBundle, text_fails, audit_ends}
 use Rattle.store_calls.proofs.audit.audit_source.Goals as goal
 
 pub returns-in-Ok : goal.returns-in-Ok

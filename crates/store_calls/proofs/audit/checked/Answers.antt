@@ -1,6 +1,4 @@
-use Rattle.store_calls.proofs.Common.{◌≡◌, ◌⊎◌, ℕ, List, inl, inr, refl, sym, ap, subst, ◌∙◌, length, line_claim, CommitLine, IsVerdict, report_told, Bundle, Status, IsUnchecked, AreBundleParts, bundle_part, IsFaultAt, length-map, KeptStore, StandsForKept}
-use Rattle.job_text.specs.declared.job.Job.{Job}
-use Rattle.store_calls.proofs.PromiseLemmas.{handed_on}
+use Rattle.store_calls.proofs.Lemmas.{◌≡◌, ◌⊎◌, ℕ, List, inl, inr, refl, sym, ap, subst, ◌∙◌, length, line_claim, CommitLine, IsVerdict, report_told, Bundle, Status, IsUnchecked, AreBundleParts, bundle_part, IsFaultAt, length-map, KeptStore, StandsForKept, Job, handed_on}
 use Rattle.store_calls.proofs.audit.checked.Goals as goal
 
 -- a closing store that stands for nothing

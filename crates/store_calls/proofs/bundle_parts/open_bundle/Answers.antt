@@ -1,5 +1,4 @@
-use Rattle.store_calls.proofs.Common.{arith, nat_tests, ◌≡◌, ◌⊎◌, ℕ, List, sym, ap, subst, ◌∙◌, Ok, Content, content_of, job_of, AreCommitsOf, IsFirstBadLine, CommitLine, IsBundle, Bundle, Status, IsBundleShut, bundle_part, IsFaultAt}
-use Rattle.store_calls.proofs.PromiseLemmas.{handed_on}
+use Rattle.store_calls.proofs.Lemmas.{arith, nat_tests, ◌≡◌, ◌⊎◌, ℕ, List, sym, ap, subst, ◌∙◌, Ok, Content, content_of, job_of, AreCommitsOf, IsFirstBadLine, CommitLine, IsBundle, Bundle, Status, IsBundleShut, bundle_part, IsFaultAt, handed_on}
 use Rattle.store_calls.proofs.bundle_parts.open_bundle.Goals as goal
 
 module _ (bytes : List ℕ) (bundle : Bundle) (parts : IsBundle bytes bundle) (content : Content) (job_is : job_of (bundle_part bytes bundle.job) ≡ Ok content) where

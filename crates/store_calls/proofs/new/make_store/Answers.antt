@@ -1,5 +1,4 @@
-use Rattle.std.proofs.Common.{rules}
-use Rattle.store_calls.proofs.Lemmas.{◌≡◌, ℕ, List, [], ◌++◌, ◌∙◌, ap, subst, codes, decimal, fresh, call, Written, new_line, written_since, not_written, unmade}
+use Rattle.store_calls.proofs.Lemmas.{◌≡◌, ℕ, List, [], ◌++◌, ◌∙◌, ap, subst, codes, decimal, fresh, call, Written, new_line, written_since, not_written, unmade, rules}
 use Rattle.store_calls.proofs.new.make_store.Goals as goal
 
 pub returns : goal.returns

@@ -1,5 +1,4 @@
-use Rattle.store_calls.proofs.Common.{arith}
-use Rattle.std.proofs.lemmas.Grind.{common_steps}
+use Rattle.store_calls.proofs.Common.{arith, common_steps}
 use Rattle.store_calls.proofs.renew.+add_widened.Goals as goal
 
 pub add_widened-requires : goal.add_widened-requires

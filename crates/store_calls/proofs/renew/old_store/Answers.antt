@@ -1,6 +1,4 @@
-use Rattle.std.proofs.Common.{rules}
-use Rattle.std.proofs.lemmas.Grind.{common_steps}
-use Rattle.store_calls.proofs.Lemmas.{arith, ◌≡◌, false, sym, ◌∙◌, ap, bytes_of, page_bytes, PageSize, sum_by, flat_of, is_version_two, stood_one}
+use Rattle.store_calls.proofs.Lemmas.{arith, ◌≡◌, false, sym, ◌∙◌, ap, bytes_of, page_bytes, PageSize, sum_by, flat_of, is_version_two, stood_one, common_steps, rules}
 use Rattle.store_calls.proofs.renew.old_store.Goals as goal
 
 pub returns-in-Ok : goal.returns-in-Ok

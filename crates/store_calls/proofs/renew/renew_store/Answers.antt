@@ -1,5 +1,4 @@
-use Rattle.std.proofs.Common.{rules}
-use Rattle.store_calls.proofs.Lemmas.{◌≡◌, ℕ, List, [], length, sym, ◌∙◌, ap, subst, flat_of, call, given, Written, renew_line, renewed_image, renewed_by_writing, renewed_no_empty, not_written, written_since}
+use Rattle.store_calls.proofs.Lemmas.{◌≡◌, ℕ, List, [], length, sym, ◌∙◌, ap, subst, flat_of, call, given, Written, renew_line, renewed_image, renewed_by_writing, renewed_no_empty, not_written, written_since, rules}
 use Rattle.store_calls.proofs.renew.renew_store.Goals as goal
 
 pub returns-in-Err-ask_empty : goal.returns-in-Err-ask_empty

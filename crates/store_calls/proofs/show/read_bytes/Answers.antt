@@ -1,5 +1,4 @@
-use Rattle.store_calls.proofs.Common.{rules}
-use Rattle.store_calls.proofs.Lemmas.{◌≡◌, ◌+◌, Bool, true, List, ℕ, length, ap, ◌∙◌, sym, arith, ◌==◌, nat_tests, asks_on, held_of, stands, bytes_standing, held_same, shows_asks, in_two_pages, none_in, still_shown, on_ok_weaker, nil_from_length}
+use Rattle.store_calls.proofs.Lemmas.{◌≡◌, ◌+◌, Bool, true, List, ℕ, length, ap, ◌∙◌, sym, arith, ◌==◌, nat_tests, asks_on, held_of, stands, bytes_standing, held_same, shows_asks, in_two_pages, none_in, still_shown, on_ok_weaker, nil_from_length, rules}
 use Rattle.store_calls.proofs.show.read_bytes.Goals as goal
 
 no_more : (bytes : List ℕ) (empty : Bool) → empty ≡ (length bytes == 0) → empty ≡ true → length bytes ≡ 0

@@ -1,5 +1,4 @@
-use Rattle.store_calls.proofs.Common.{rules}
-use Rattle.store_calls.proofs.Lemmas.{◌≡◌, ◌<◌, ◌+◌, ◌-◌, ◌*◌, ◌%◌, ◌/◌, List, ℕ, length, take, drop, sym, ap, subst, ◌∙◌, arith, PageSize, page_bytes, Layout, byte_count, page_count, byte_count_pages, held_of, Header, stands, page_in, has_pages, in_page, nat_tests}
+use Rattle.store_calls.proofs.Lemmas.{◌≡◌, ◌<◌, ◌+◌, ◌-◌, ◌*◌, ◌%◌, ◌/◌, List, ℕ, length, take, drop, sym, ap, subst, ◌∙◌, arith, PageSize, page_bytes, Layout, byte_count, page_count, byte_count_pages, held_of, Header, stands, page_in, has_pages, in_page, nat_tests, rules}
 use Rattle.lines.specs.FlatLines.{page_of}
 use Rattle.store_calls.proofs.show.read_in_page.Goals as goal
 

@@ -1,6 +1,4 @@
-use Rattle.store_calls.proofs.Common.{rules, ◌+◌, ◌∙◌, ap, subst, sym, start_of, Header, IsInside}
-use Rattle.store_calls.proofs.ShowLemmas.{no_range, not_shown, shown_part, shown_whole}
-use Rattle.outside.proofs.Runs.{opens_some}
+use Rattle.store_calls.proofs.Lemmas.{rules, ◌+◌, ◌∙◌, ap, subst, sym, start_of, Header, IsInside, opens_some, no_range, not_shown, shown_part, shown_whole}
 use Rattle.store_calls.proofs.show.show_range.Goals as goal
 
 pub returns-in-Err : goal.returns-in-Err

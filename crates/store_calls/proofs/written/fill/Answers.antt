@@ -1,5 +1,4 @@
-use Rattle.store_calls.proofs.Common.{arith, calls_on, carries_err, common_steps, rules, carries_on, Did, DidSome, some_more, sure_deeds}
-use Rattle.store_calls.proofs.Lemmas.{◌≡◌, ◌++◌, ◌∙◌, ◌+◌, ◌-◌, [], List, ℕ, Some, sym, refl, ap, subst, length, take, drop, replicate, unwrap_or, IsTrue, IsSome, Torn, Option, held_of, leaves_on, option_map, leaves_held, written, IsOnTheWay, name_on_the_way, put_name, put_tail, tail_is, tail_on_the_way, on_ok_weaker, one_and}
+use Rattle.store_calls.proofs.Lemmas.{◌≡◌, ◌++◌, ◌∙◌, ◌+◌, ◌-◌, [], List, ℕ, Some, sym, refl, ap, subst, length, take, drop, replicate, unwrap_or, IsTrue, IsSome, Torn, Option, held_of, leaves_on, option_map, leaves_held, written, IsOnTheWay, name_on_the_way, put_name, put_tail, tail_is, tail_on_the_way, on_ok_weaker, one_and, arith, calls_on, carries_err, common_steps, rules, carries_on, Did, DidSome, some_more, sure_deeds}
 use Rattle.store_calls.proofs.written.fill.Given as given
 use Rattle.store_calls.proofs.written.fill.Goals as goal
 

@@ -1,5 +1,4 @@
-use Rattle.store_calls.proofs.Common.{arith, calls_on, carries_err, common_steps, image_deeds, rules, carries_on, fill_deeds, some_more, sure_deeds}
-use Rattle.store_calls.proofs.Lemmas.{◌≡◌, ◌⊎◌, ◌∙◌, ◌+◌, [], inl, List, ℕ, Some, sym, refl, ap, subst, length, replicate, unwrap_or, IsTrue, IsSome, Torn, Option, held_of, leaves_on, option_map, told_some, written, IsNoStore, long_enough, short, torn_empty, torn_short, torn_wider, on_ok_weaker, one_and}
+use Rattle.store_calls.proofs.Lemmas.{◌≡◌, ◌⊎◌, ◌∙◌, ◌+◌, [], inl, List, ℕ, Some, sym, refl, ap, subst, length, replicate, unwrap_or, IsTrue, IsSome, Torn, Option, held_of, leaves_on, option_map, told_some, written, IsNoStore, long_enough, short, torn_empty, torn_short, torn_wider, on_ok_weaker, one_and, arith, calls_on, carries_err, common_steps, image_deeds, rules, carries_on, fill_deeds, some_more, sure_deeds}
 use Rattle.store_calls.proofs.written.write.Given as given
 use Rattle.store_calls.proofs.written.write.Goals as goal
 

@@ -1,5 +1,4 @@
-use Rattle.store_calls.proofs.Common.{arith, asks_one, calls_on, common_steps, rules, List, ℕ, length, Torn, leaves_same, still_told, carries_on, some_more, [], ◌∷◌, Synced, Wrote}
-use Rattle.outside.specs.Deeds.{SyncsBy}
+use Rattle.store_calls.proofs.Common.{arith, asks_one, calls_on, common_steps, rules, List, ℕ, length, Torn, leaves_same, still_told, carries_on, some_more, [], ◌∷◌, Synced, Wrote, SyncsBy}
 use Rattle.store_calls.proofs.written.write_sure.Goals as goal
 
 pub returns-in_err-write_at : goal.returns-in_err-write_at
