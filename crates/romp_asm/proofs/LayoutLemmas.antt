@@ -1,9 +1,8 @@
 -- A program, as its statements are laid one after the other.
-use Rattle.romp_asm.proofs.Common.{◌≡◌, ℕ, ℤ, pos, suc, zero, ◌+◌, ◌<◌, ◌≤◌, Bool, false, is_some, List, [], ◌∷◌, ◌++◌, length, take, drop, get_or, Option, None, Result, Ok, refl, sym, ◌∙◌, arith, append_assoc, append-nil, add-one, length-append, replicate, unwrap_or, option_map, drop-cons, nat_tests, drop_all, get_or_default, take_all, take_more, sum_by_push, fold_push, Statement, Place, addresses_in, found_in, place_from, label_place, repeated_in, stands_before, AreReadAs, IsLaid, IsReadAs, LaidTo, image_joined, Scope, assembled, entry_of, has_label_of, image_behind, parts_of, piece_before, piece_of, windows_of, with_image, size_of, total_size, address_from, addresses_of}
+use Rattle.romp_asm.proofs.Common.{◌≡◌, ℕ, ℤ, pos, suc, zero, ◌+◌, ◌<◌, ◌≤◌, Bool, false, is_some, List, [], ◌∷◌, ◌++◌, length, take, drop, get_or, Option, None, Result, Ok, refl, sym, ◌∙◌, arith, append_assoc, append-nil, add-one, length-append, replicate, unwrap_or, option_map, drop-cons, nat_tests, drop_all, get_or_default, take_all, take_more, sum_by_push, fold_push, Statement, Place, addresses_in, found_in, place_from, label_place, repeated_in, stands_before, AreReadAs, IsLaid, IsReadAs, LaidTo, image_joined, Scope, assembled, entry_of, has_label_of, image_behind, parts_of, piece_before, piece_of, windows_of, with_image, size_of, total_size, address_from, addresses_of, at_line}
 use Rattle.asm_parse.specs.declared.asm_fault.AsmFault.{AsmFault}
 use Rattle.flat_machine.specs.declared.machine.Program.{Program}
 use Rattle.asm_parse.specs.Answers.{IsTextFaultOf}
-use Rattle.asm_parse.specs.Text.{at_line}
 use Rattle.romp_asm.specs.declared.output.Output.{Output}
 
 -- a label's address is that of its place

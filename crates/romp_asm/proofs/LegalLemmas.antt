@@ -1,13 +1,11 @@
 -- The instruction of a form is one that the table has.
-use Rattle.romp_asm.proofs.Common.{◌≡◌, ℕ, ◌≤◌, Option, Some, refl, sym, ap, ◌∙◌, arith, option_map, IsSomeAnd, Use, form_of, nat_tests}
+use Rattle.romp_asm.proofs.Common.{◌≡◌, ℕ, ◌≤◌, Option, Some, refl, sym, ap, ◌∙◌, arith, option_map, IsSomeAnd, Use, form_of, nat_tests, HasSize, IsInstOf, HasWidths, IsLegal, IsRowOf, op_of}
 use Rattle.romp_table.specs.declared.inst.Op.{Op}
 use Rattle.romp_table.specs.declared.inst.Inst.{Inst}
 use Rattle.romp_table.specs.declared.table.Format.{Format}
 use Rattle.romp_table.specs.declared.table.Row.{Row}
-use Rattle.romp_table.specs.Legal.{HasWidths, IsLegal, IsRowOf, op_of}
 use Rattle.romp_table.specs.Rows.{row_of}
 use Rattle.asm_parse.specs.declared.form.Form.{Form}
-use Rattle.romp_asm.specs.Size.{HasSize, IsInstOf}
 
 -- a row's format and what its register fields are for
 pub record Shape : Type 0 where

@@ -1,7 +1,6 @@
 -- A statement whose labels are replaced by other words is read as it was.
-use Rattle.romp_asm.proofs.Common.{◌≡◌, ℕ, ℤ, Bool, List, [], ◌∷◌, map, Option, Result, refl, ap, ◌∙◌, Body, encoding_of, fitted, piece_of, entry_after, with_window, size_of, renamed_body, renamed_operand, knowns_of, nat_tests, arith}
+use Rattle.romp_asm.proofs.Common.{◌≡◌, ℕ, ℤ, Bool, List, [], ◌∷◌, map, Option, Result, refl, ap, ◌∙◌, Body, encoding_of, fitted, piece_of, entry_after, with_window, size_of, renamed_body, renamed_operand, knowns_of, nat_tests, arith, Operand}
 use Rattle.flat_machine.specs.declared.machine.Window.{Window as Sight}
-use Rattle.asm_parse.specs.declared.statement.Operand.{Operand}
 
 module _ (addresses : List ℕ → Option ℤ) (name : List ℕ → List ℕ) where
   abbrev by_name : List ℕ → Option ℤ

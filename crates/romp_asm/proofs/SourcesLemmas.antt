@@ -1,5 +1,5 @@
 -- Where the labels of several sources stand.
-use Rattle.romp_asm.proofs.Common.{◌≡◌, inl, inr, ℕ, ℤ, pos, suc, ◌+◌, ◌<◌, ◌≤◌, false, is_some, List, [], ◌∷◌, ◌++◌, length, map, take, drop, get_or, sum_by, Option, Some, None, refl, sym, ap, subst, ◌∙◌, arith, append-nil, append_assoc, length-append, list_any, option_map, option_or, fun_ext, drop-cons, cases_lt, nat_tests, get_or_push, get_or_append_left, get_or_default, get_or-map, take-append-le, take_all, take_more, take-map, map-append, length-map, length-take-le, take-append-drop, fold_push, sum_by-append, sum_by-cons, Statement, Place, Scope, LabelTable, addresses_in, found_in, repeated_in, stands_before, AreAlone, AreTables, IsTable, AreReadAs, IsReadAs, assembled, entry_of, has_label_of, image_behind, piece_of, windows_of, size_of, total_size, joined_from, meant, name_in, named, renamed_body, address_from, address_of, addresses_of, is_labelled, option_and_then, slice_get}
+use Rattle.romp_asm.proofs.Common.{◌≡◌, inl, inr, ℕ, ℤ, pos, suc, ◌+◌, ◌<◌, ◌≤◌, false, is_some, List, [], ◌∷◌, ◌++◌, length, map, take, drop, get_or, sum_by, Option, None, refl, sym, ap, subst, ◌∙◌, arith, append-nil, append_assoc, length-append, list_any, option_map, option_or, fun_ext, drop-cons, cases_lt, nat_tests, get_or_push, get_or_append_left, get_or_default, get_or-map, take-append-le, take_all, take_more, take-map, map-append, length-map, length-take-le, take-append-drop, fold_push, sum_by-append, sum_by-cons, Statement, Place, Scope, LabelTable, addresses_in, found_in, repeated_in, stands_before, AreAlone, AreTables, IsTable, AreReadAs, IsReadAs, assembled, entry_of, has_label_of, image_behind, piece_of, windows_of, size_of, total_size, joined_from, meant, name_in, named, renamed_body, address_from, address_of, addresses_of, is_labelled, option_and_then, slice_get}
 use Rattle.std.proofs.lemmas.Option.{slice_get-get_or, slice_get_past}
 use Rattle.romp_asm.proofs.LayoutLemmas.{address_same, among_first}
 use Rattle.romp_asm.proofs.RenamedLemmas.{entry_renamed, piece_renamed, size_renamed, window_renamed}
@@ -122,13 +122,6 @@ module _ (giver : List ℕ → Option ℕ) where
       address-name word =
           rw (joined-split place sources within, joined-from-one place sources within)
           (address-front source (joined_from giver (place + 1) (drop (place + 1) sources)) word (λ at. address-outside (place + 1) place at (drop (place + 1) sources) word (λ k inside same. omega (arith, same))))
-
--- a table of a source that tells the addresses of its labels
-told : (place : Option Place) (others : Option Place) (address : ℤ) → option_map (λ (place : Place). place.address) place ≡ Some address → option_map (λ (place : Place). place.address) (option_or place others) ≡ Some address
-told place others address is = grind (arith, nat_tests)
-
-untold : (place : Option Place) (others : Option Place) → option_map (λ (place : Place). place.address) place ≡ None → option_or place others ≡ others
-untold place others is = grind (arith, nat_tests)
 
 module _ (scope : Scope) (sources : List (List Statement)) (are : AreTables scope.tables.now sources) where
   abbrev giver : List ℕ → Option ℕ

@@ -1,5 +1,4 @@
-use Rattle.romp_asm.proofs.Common.{◌≡◌, ◌+◌, ℕ, List, Bor, Some, None, is_some, arith, sym, ap, subst, ◌∙◌, if◌then◌else◌, option_map, option_or, bytes_eq, found_in, exported, stated, Exports}
-use Rattle.romp_asm.proofs.ExportLemmas.{AreSoFar, so_far_all, so_far_export, so_far_other, so_far_start}
+use Rattle.romp_asm.proofs.Lemmas.{◌≡◌, ◌+◌, ℕ, List, Bor, Some, None, is_some, arith, sym, ap, subst, ◌∙◌, if◌then◌else◌, option_map, option_or, bytes_eq, found_in, exported, stated, Exports, AreSoFar, so_far_all, so_far_export, so_far_other, so_far_start}
 use Rattle.romp_asm.proofs.exports.add_exports.Goals as goal
 use Rattle.romp_asm.proofs.exports.add_exports.Goals.{in-Some+in_ok-add-in-Some, in-None}
 

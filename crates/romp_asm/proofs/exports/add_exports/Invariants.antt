@@ -1,5 +1,4 @@
-use Rattle.romp_asm.proofs.Common.{◌≡◌, List, length, Statement, AreExports}
-use Rattle.romp_asm.proofs.ExportLemmas.{AreSoFar}
+use Rattle.romp_asm.proofs.Lemmas.{◌≡◌, List, length, Statement, AreExports, AreSoFar}
 use Rattle.romp_asm.proofs.exports.add_exports.Given as goal
 
 abbrev pub invariant-loop-index : goal.invariant-loop-index

@@ -1,5 +1,4 @@
-use Rattle.romp_asm.proofs.Common.{[], ◌∷◌, ◌++◌, take, refl, arith, sym, subst, length-take-le, AreExports, fault_behind, Exports}
-use Rattle.romp_asm.proofs.ExportLemmas.{exports_other, exports_to}
+use Rattle.romp_asm.proofs.Lemmas.{[], ◌∷◌, ◌++◌, take, refl, arith, sym, subst, length-take-le, AreExports, fault_behind, Exports, exports_other, exports_to}
 use Rattle.romp_asm.proofs.exports.exports_of.Goals as goal
 use Rattle.romp_asm.proofs.exports.exports_of.Goals.{then-has_exports+in_ok-labels+in_ok-add_exports, else-has_exports}
 

@@ -1,5 +1,4 @@
-use Rattle.romp_asm.proofs.Common.{◌≡◌, None, arith, sym, subst, ◌∙◌, AllByRecursion, take_all, stated, exported}
-use Rattle.romp_asm.proofs.ExportLemmas.{none_more, unsaid}
+use Rattle.romp_asm.proofs.Lemmas.{◌≡◌, None, arith, sym, subst, ◌∙◌, AllByRecursion, take_all, stated, exported, none_more, unsaid}
 use Rattle.romp_asm.proofs.exports.has_exports.Goals as goal
 
 pub loop-index-preserved : goal.loop-index-preserved

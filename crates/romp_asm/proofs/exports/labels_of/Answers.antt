@@ -1,7 +1,4 @@
-use Rattle.romp_asm.proofs.Common.{ℕ, List, Option, Bor, is_some, take, arith, sym, ap, ◌∙◌, option_map, option_map_or, bytes_eq, take_all, stated, Statement, found_in, defines}
-use Rattle.romp_asm.proofs.WordLemmas.{word_updates}
-use Rattle.std.specs.Prelude.{false, ◌||◌, Bool}
-use Rattle.romp_asm.proofs.ExportLemmas.{label_more, label_none, labels_on}
+use Rattle.romp_asm.proofs.Lemmas.{ℕ, List, Option, Bor, is_some, take, arith, sym, ap, ◌∙◌, option_map, option_map_or, bytes_eq, take_all, stated, Statement, found_in, defines, false, ◌||◌, Bool, word_updates, label_more, label_none, labels_on}
 use Rattle.romp_asm.proofs.exports.labels_of.Goals as goal
 use Rattle.romp_asm.proofs.exports.labels_of.Goals.{in-Some+in_ok-insert-in-Some, in-None}
 

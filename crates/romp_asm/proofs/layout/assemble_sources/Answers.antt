@@ -1,5 +1,4 @@
-use Rattle.romp_asm.proofs.Lemmas.{laid_all, laid_none, alone_of, laid_to, left_from, reads_source}
-use Rattle.romp_asm.proofs.Common.{◌≡◌, ◌+◌, [], ◌++◌, map, take, drop, get_or, sym, ◌∙◌, err_from_is_err_and, drop_all, get_or_default, take_all, found_in, AreTables, LaidTo, joined_from, named}
+use Rattle.romp_asm.proofs.Lemmas.{laid_all, laid_none, alone_of, laid_to, left_from, reads_source, ◌≡◌, ◌+◌, [], ◌++◌, map, take, drop, get_or, sym, ◌∙◌, err_from_is_err_and, drop_all, get_or_default, take_all, found_in, AreTables, LaidTo, joined_from, named}
 use Rattle.romp_asm.proofs.layout.assemble_sources.Goals as goal
 use Rattle.romp_asm.proofs.layout.assemble_sources.Goals.{After-index-tables-source}
 

@@ -1,5 +1,4 @@
-use Rattle.romp_asm.proofs.Common.{ℕ, List, Bor, cond, Option, Some, is_some, sym, ap, ◌∙◌, option_map, bytes_eq, stated, Place, found_in}
-use Rattle.romp_asm.proofs.WordLemmas.{found_by_key, noted_back, noted_label, word_updates}
+use Rattle.romp_asm.proofs.Lemmas.{ℕ, List, Bor, cond, Option, Some, is_some, sym, ap, ◌∙◌, option_map, bytes_eq, stated, Place, found_in, found_by_key, noted_back, noted_label, word_updates}
 use Rattle.romp_asm.proofs.value.note.Goals as goal
 
 pub returns-in-None-clause-noted : goal.returns-in-None-clause-noted

@@ -1,6 +1,4 @@
-use Rattle.romp_asm.proofs.Common.{ap, is_some, sym, ◌∙◌, found_in}
-use Rattle.romp_asm.proofs.WordLemmas.{found_by_key, word_updates}
-use Rattle.romp_asm.proofs.ExportLemmas.{given_more}
+use Rattle.romp_asm.proofs.Lemmas.{ap, is_some, sym, ◌∙◌, found_in, found_by_key, word_updates, given_more}
 use Rattle.romp_asm.proofs.exports.Exports.add.Goals as goal
 
 pub returns-in_ok-insert-clause-givers : goal.returns-in_ok-insert-clause-givers
