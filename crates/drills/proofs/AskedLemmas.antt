@@ -1,7 +1,5 @@
 -- What was asked of an outside while something happened, by the bytes that the deeds before it left.
-use Rattle.drills.proofs.Common.{◌≡◌, List, ℕ, [], ◌∷◌, ◌++◌, refl, sym, ◌∙◌, ap, subst, append-nil, append_assoc, Option, Some, unwrap_or, Deed, Ghosts, Happening, HappenedAsks, OpenedAsks, OpenedWith, RunAsks, Since, Synced, SyncedOnce, held_of}
-use Rattle.desk.specs.Asked.{EventAsks}
-use Rattle.outside.specs.Moments.{IsNotAfter}
+use Rattle.drills.proofs.Common.{◌≡◌, List, ℕ, [], ◌∷◌, ◌++◌, refl, sym, ◌∙◌, ap, subst, append-nil, append_assoc, Option, Some, unwrap_or, Deed, Ghosts, Happening, HappenedAsks, OpenedAsks, OpenedWith, RunAsks, Since, Synced, SyncedOnce, held_of, IsNotAfter, EventAsks}
 use Rattle.outside.proofs.Runs.{not_after}
 
 -- of an outside that was made as this one, what was asked of it leaves the bytes that it holds

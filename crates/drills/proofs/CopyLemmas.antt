@@ -1,6 +1,5 @@
 -- A job that says what another says.
-use Rattle.drills.proofs.Common.{◌≡◌, ◌≤◌, ℕ, List, [], ◌∷◌, length, map, get_or, refl, sym, ap, ◌∙◌, subst, arith, All, AllZip, get_or-map, length-map, ArrayVec, Event, Program, Job, names_of}
-use Rattle.job_text.specs.Ready.{IsName, IsReady, IsEventAmong}
+use Rattle.drills.proofs.Common.{◌≡◌, ◌≤◌, ℕ, List, [], ◌∷◌, length, map, get_or, refl, sym, ap, ◌∙◌, subst, arith, All, AllZip, get_or-map, length-map, ArrayVec, Event, Program, Job, names_of, IsName, IsReady, IsEventAmong}
 
 -- bytes that are copies of others are these
 same_bytes : (xs ys : List ℕ) → AllZip (λ x y. y ≡ x) xs ys → ys ≡ xs

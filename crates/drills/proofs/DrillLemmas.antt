@@ -1,9 +1,8 @@
 -- What a drill's stops come to, and what is put of them.
-use Rattle.drills.proofs.Common.{◌≡◌, inl, inr, ℕ, zero, suc, ◌+◌, ◌*◌, ◌%◌, ◌<◌, ◌≤◌, Bool, true, false, List, [], ◌∷◌, ◌++◌, length, refl, sym, ◌∙◌, ap, subst, rules, arith, append_assoc, append-nil, length-append, ◌^◌, min, get_or, All, Result, Ok, Vec, FlatStore, HasRanges, fresh, Standing, Stands, stands, Job, Ghosts, FewerLater, puts_on, puts_same, times_on, Status, Stop, Committed, length-map, IsStop, Rose, Given, DrilledBy, DrilledTo, IsPair, IsPast, IsTried, PutsFirst, PutsStops, PutsWhole, last_line, pair_lines, stop_lines, try_flat, try_order, well, IsStanding, cases_lt, Failed}
+use Rattle.drills.proofs.Common.{◌≡◌, inl, inr, ℕ, zero, suc, ◌+◌, ◌*◌, ◌%◌, ◌<◌, ◌≤◌, Bool, true, false, List, [], ◌∷◌, ◌++◌, length, refl, sym, ◌∙◌, ap, subst, rules, arith, append_assoc, append-nil, length-append, ◌^◌, min, get_or, All, Result, Ok, Vec, FlatStore, HasRanges, fresh, Standing, Stands, stands, Job, Ghosts, FewerLater, puts_on, puts_same, times_on, Status, Stop, Committed, length-map, IsStop, Rose, Given, DrilledBy, DrilledTo, IsPair, IsPast, IsTried, PutsFirst, PutsStops, PutsWhole, last_line, pair_lines, stop_lines, try_flat, try_order, well, IsStanding, cases_lt, Failed, PrintsBytes, PutsTimes}
 use Rattle.std.specs.declared.alloc.Global.{Global}
 use Rattle.lines.specs.Legal.{IsInRange, AreSegmentsLegal}
 use Rattle.store_format.proofs.Fresh.{fresh_stands}
-use Rattle.listing.specs.BytesPut.{PrintsBytes, PutsTimes}
 use Rattle.drills.specs.declared.drill.StopPair.{StopPair}
 use Rattle.job_text.specs.Grammar.{content_of, job_of}
 use Rattle.call_status.specs.Statuses.{IsOfReading}

@@ -1,22 +1,15 @@
 -- Each write that a run's events ask has bytes, and none of them lies in the header.
-use Rattle.drills.proofs.Common.{◌≡◌, inl, inr, ℕ, zero, suc, ◌+◌, ◌*◌, ◌%◌, ◌<◌, ◌≤◌, ◌^◌, Bool, true, false, List, [], ◌∷◌, ◌++◌, length, take, drop, refl, sym, ◌∙◌, ap, subst, arith, length-append, Option, Some, None, nat_tests, if◌then◌else◌, Deed, Wrote, Tore, Synced, written, Happening, HappenedAsks, OpenedWith, FlatStore, Stands, stands, left_after, left_by}
+use Rattle.drills.proofs.Common.{◌≡◌, inl, inr, ℕ, zero, suc, ◌+◌, ◌*◌, ◌%◌, ◌<◌, ◌≤◌, ◌^◌, Bool, true, false, List, [], ◌∷◌, ◌++◌, length, take, drop, refl, sym, ◌∙◌, ap, subst, arith, length-append, Option, Some, None, nat_tests, if◌then◌else◌, Deed, Wrote, Tore, Synced, written, Happening, HappenedAsks, OpenedWith, FlatStore, Stands, stands, left_after, left_by, CheckpointFailed, CheckpointMade, Crashed, CrashFailed, Turned, bytes_at, chosen, standing_if, AreSome, WritesSome, EventAsks, own_header, length-drop, length-take, take-append-le, take-take, bank_at, entry_bytes, Header, fields, first_fault, header_of, home_at, number_at, total}
 use Rattle.std.specs.Prelude.{nat_lt, nat_le, slice_index, ◌&&◌, ◌==◌}
-use Rattle.std.proofs.lemmas.List.{length-drop, length-take, take-append-le, take-take}
 use Rattle.store_format.proofs.Common.{big_bytes, big_number}
-use Rattle.desk.specs.Asked.{EventAsks, own_header}
 use Rattle.desk.specs.Instruction.{Committed, CommitDoubted, CommitUnwritten}
-use Rattle.desk.specs.Run.{CheckpointFailed, CheckpointMade, Crashed, CrashFailed, Turned}
-use Rattle.drills.specs.Asked.{AreSome, WritesSome}
 use Rattle.lines.specs.Segments.{line_bytes}
 use Rattle.lines.specs.FlatLines.{line_count}
 use Rattle.lines.specs.declared.line_geometry.PageSize.{PageSize}
 use Rattle.lines.specs.declared.line_geometry.PageSize.TheVariants.{Two, Four}
-use Rattle.outside.specs.Bytes.{bytes_at}
 use Rattle.outside.specs.Deeds.{EndsBroken, IsCut, Unsynced, broken}
 use Rattle.store_format.specs.Asked.{body_deeds, checkpoint_asks, chosen_content, chosen_number, CommitAsks, copy_deeds, gate_deeds, gate_of, HasRoom, head_bytes, home_deeds, MakesRoom, other, records_of, turn_deeds}
 use Rattle.store_format.specs.Bank.{Area, area_behind, BankContent, bank_of, Closed, Faulty, Gate, gate_at, gate_if, head_fault, headed_gate, Holds, holds_from, lined_gate, lines_from, newest_place, parsed_lines, preceded, RecordLine, record_bytes, Sound, wrong_line, Wrong, count_of}
-use Rattle.store_format.specs.Header.{bank_at, entry_bytes, Header, fields, first_fault, header_of, home_at, number_at, total}
-use Rattle.store_format.specs.Stands.{chosen, standing_if}
 use Rattle.store_format.specs.declared.header.Which.{Which}
 use Rattle.store_format.specs.declared.header.Which.TheVariants.{A, B}
 use Rattle.store.proofs.Newest.{held_records, newest_within}

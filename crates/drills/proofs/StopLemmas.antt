@@ -1,13 +1,11 @@
 -- What a run leaves on a disk that stops.
 use Rattle.desk_law.proofs.HeadlineLemmas.{start_is_prefix}
-use Rattle.call_status.specs.Call.{Called}
 use Rattle.drills.proofs.AskedLemmas.{opened_asks}
 use Rattle.drills.proofs.SomeLemmas.{opened-some, stands-ready}
-use Rattle.drills.proofs.Common.{◌≡◌, ◌⊎◌, ℕ, ◌+◌, ◌*◌, ◌≤◌, inl, inr, Bool, true, false, List, [], ◌∷◌, ◌++◌, length, map, take, rules, cond, refl, sym, ◌∙◌, ap, subst, arith, append-nil, append_assoc, Option, Some, None, ◌↔◌, Result, Ok, IsSome, unwrap_or, count_by, not, length-map, length-append, length-filter, sum_by-append, Ghosts, Rose, Elapses, FewerLater, held_of, disk_faults, disk_held, disk_images, disk_moment, disk_writes, FlatStore, Stands, Program, header_of, most_lines, stands, Event, Committed, order_told, commits_seen, Job, Status, Stop, HasAsked, IsRunLeft, IsStop, IsStoppedRun, IsTold, all_fine, fine_order, Happening, happened, OpenedWith, Since, Deed, Synced, Tore, StoppingDisk, deeds_of, memory_of, AreFewer, AreStopped, left_after, ByOpening, DidBy, FoundNoStore, JobHasRun, HasRunFrom, HappenedTo, StoodForNone, TellsStore, Untouched, job_desk, names_of, call, StandsAt, ⊎_elim, cases_Bool, flat_map, AreTold, Prints, screen_printed, MemoryDisk, disk_origin, disk_plan, Origin, outcome_of, put_by, stop_number}
+use Rattle.drills.proofs.Common.{◌≡◌, ◌⊎◌, ℕ, ◌+◌, ◌*◌, ◌≤◌, inl, inr, Bool, true, false, List, [], ◌∷◌, ◌++◌, length, map, take, rules, cond, refl, sym, ◌∙◌, ap, subst, arith, append-nil, append_assoc, Option, Some, None, ◌↔◌, Result, Ok, IsSome, unwrap_or, count_by, not, length-map, length-append, length-filter, sum_by-append, Ghosts, Rose, Elapses, FewerLater, held_of, disk_faults, disk_held, disk_images, disk_moment, disk_writes, FlatStore, Stands, Program, header_of, most_lines, stands, Event, Committed, order_told, commits_seen, Job, Status, Stop, HasAsked, IsRunLeft, IsStop, IsStoppedRun, IsTold, all_fine, fine_order, Happening, happened, OpenedWith, Since, Deed, Synced, Tore, StoppingDisk, deeds_of, memory_of, AreFewer, AreStopped, left_after, ByOpening, DidBy, FoundNoStore, JobHasRun, HasRunFrom, HappenedTo, StoodForNone, TellsStore, Untouched, job_desk, names_of, call, StandsAt, ⊎_elim, cases_Bool, flat_map, AreTold, Prints, screen_printed, MemoryDisk, disk_origin, disk_plan, Origin, outcome_of, put_by, stop_number, run, faulted, is_fine, Failed as PutFailed, Called}
 use Rattle.std.proofs.Math.Logic.{∥∥₁_elim}
 use Rattle.outside.specs.Deeds.{EndsBroken, IsCut, broken}
 use Rattle.std.specs.Option.{option_and_then}
-use Rattle.outside.specs.declared.failed.Failed.{Failed as PutFailed}
 use Rattle.outside.specs.declared.memory_screen.MemoryScreen.{MemoryScreen}
 use Rattle.flat_machine.specs.declared.machine.Plain.{Plain}
 use Rattle.flat_machine.specs.Serial.{Activation, committing, serial}
@@ -17,7 +15,6 @@ use Rattle.desk.specs.Instruction.{DiskWord, Fine}
 use Rattle.desk.specs.Kept.{WritesMore}
 use Rattle.desk.specs.ReportLines.{ReportLine, Open, line_text}
 use Rattle.desk.specs.Report.{closing_lines, event_lines, report}
-use Rattle.desk.specs.Run.{run, faulted, is_fine}
 use Rattle.desk_law.specs.Headline.{IsPrefix}
 use Rattle.desk_law.proofs.RunLemmas.{report_parts}
 use Rattle.desk_law.proofs.SeenLemmas.{commits_in, commits_on, seen_lines}

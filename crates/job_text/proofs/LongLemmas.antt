@@ -1,10 +1,6 @@
 -- A line of more than 64 tokens is read as its first 64 are.
-use Rattle.job_text.proofs.Common.{◌≡◌, ℕ, List, [], ◌∷◌, take, Result, Ok, Err, refl, sym, ap, ◌∙◌, arith, at_line, tokens, kept_tokens, Token}
+use Rattle.job_text.proofs.Common.{◌≡◌, ℕ, List, [], ◌∷◌, take, Result, Ok, Err, refl, sym, ap, ◌∙◌, arith, at_line, tokens, kept_tokens, Token, Frames, Programs, Source, Schedule, Ended, Stage, Reading, frames_line, is_end, is_part, line_read, programs_line, schedule_line, ended_line, found_read}
 use Rattle.asm_parse.proofs.LongLemmas.{statement_kept}
-use Rattle.job_text.specs.declared.stage.Stage.{Stage}
-use Rattle.job_text.specs.declared.stage.Stage.TheVariants.{Frames, Programs, Source, Schedule, Ended}
-use Rattle.job_text.specs.Reader.{found_read}
-use Rattle.job_text.specs.Reading.{Reading, frames_line, is_end, is_part, line_read, programs_line, schedule_line, ended_line}
 
 frames_long : (reading : Reading) (a b c : Token) (found : List Token) → frames_line reading (a ∷ b ∷ c ∷ found) ≡ Err 10
 frames_long reading a b c found = grind arith

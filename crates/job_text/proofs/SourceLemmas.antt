@@ -1,6 +1,5 @@
 -- A line that was written has its tokens, and no line feed but its own; and the source that a program is written as.
-use Rattle.job_text.proofs.Common.{◌≡◌, ℕ, pos, ◌+◌, ◌<◌, ◌≤◌, ◌^◌, ◌%◌, Bool, true, false, List, [], ◌∷◌, ◌++◌, length, map, codes, Option, Some, None, Ok, refl, ap, ◌∙◌, arith, from_be_bytes, w32, AllByRecursion, AllZip, map-append, is_label, statement_of, statements_from, Token, Word, IsToken, IsWord, Parts, IsByte, IsLegalPlace, byte_body, image_bodies, made, plain_at, source_bodies, source_made, window_bodies, word_small, exported, linked_alone, HaveNoMark, IsProgram, is_end, is_part, access_text, end_line, image_lines, number_line, program_lines, tokens_text, window_tokens, windows_tokens, nat_tests, not, decimal, is_ascii_alphanumeric, flat_map, list_all, is_feed, text_lines, token_before, begins_word, continues_word, tokens, tokens_past, Number, Comma, and_parts, blank_front, mark_front, number_front, number_pass, word_front, behind_text, token_text}
-use Rattle.flat_machine.specs.declared.machine.Window.{Window as Sight}
+use Rattle.job_text.proofs.Common.{◌≡◌, ℕ, pos, ◌+◌, ◌<◌, ◌≤◌, ◌^◌, ◌%◌, Bool, true, false, List, [], ◌∷◌, ◌++◌, length, map, codes, Option, Some, None, Ok, refl, ap, ◌∙◌, arith, from_be_bytes, w32, AllByRecursion, AllZip, map-append, is_label, statement_of, statements_from, Token, Word, IsToken, IsWord, Parts, IsByte, IsLegalPlace, byte_body, image_bodies, made, plain_at, source_bodies, source_made, window_bodies, word_small, exported, linked_alone, HaveNoMark, IsProgram, is_end, is_part, access_text, end_line, image_lines, number_line, program_lines, tokens_text, window_tokens, windows_tokens, nat_tests, not, decimal, is_ascii_alphanumeric, flat_map, list_all, is_feed, text_lines, token_before, begins_word, continues_word, tokens, tokens_past, Number, Comma, and_parts, blank_front, mark_front, number_front, number_pass, word_front, behind_text, token_text, Window as Sight}
 use Rattle.asm_parse.specs.declared.statement.Body.{Body}
 use Rattle.asm_parse.specs.declared.statement.Body.TheVariants.{Data, Window, Entry}
 use Rattle.asm_parse.specs.declared.statement.Expr.TheVariants.{Number}

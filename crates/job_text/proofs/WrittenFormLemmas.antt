@@ -1,8 +1,7 @@
 -- The text that a job is written as has the form of the job, and is short.
-use Rattle.job_text.proofs.Common.{◌≡◌, inl, inr, ℕ, zero, suc, ◌+◌, ◌<◌, ◌≤◌, ◌^◌, true, List, [], ◌∷◌, ◌++◌, length, map, codes, slice_index_or, Some, refl, sym, ap, ◌∙◌, subst, arith, append_assoc, append-nil, length-append, bytes_eq, AllByRecursion, flat_map, zip, map-append, position-Some, bytes_eq-Decides, Event, Begin, Turn, Checkpoint, Crash, Token, Word, Number, place_among, is_label, text_lines, found_tokens, IsToken, IsWord, Parts, assembled_windows, linked_made, Content, HasPrograms, IsBeginLine, IsLimit, IsNoBegin, IsEventLine, HasEvents, IsJobText, four_of, rounds_of, turns_to, end_line, event_line, job_lines, token_line, number_line, program_lines, tokens_text, job_written, nat_tests, ◌*◌, decimal, Option, None, from_be_bytes, w32, Comma, behind_text, image_lines, token_text, window_tokens, windows_tokens}
+use Rattle.job_text.proofs.Common.{◌≡◌, inl, inr, ℕ, zero, suc, ◌+◌, ◌<◌, ◌≤◌, ◌^◌, true, List, [], ◌∷◌, ◌++◌, length, map, codes, slice_index_or, Some, refl, sym, ap, ◌∙◌, subst, arith, append_assoc, append-nil, length-append, bytes_eq, AllByRecursion, flat_map, zip, map-append, position-Some, bytes_eq-Decides, Event, Begin, Turn, Checkpoint, Crash, Token, Word, Number, place_among, is_label, text_lines, found_tokens, IsToken, IsWord, Parts, assembled_windows, linked_made, Content, HasPrograms, IsBeginLine, IsLimit, IsNoBegin, IsEventLine, HasEvents, IsJobText, four_of, rounds_of, turns_to, end_line, event_line, job_lines, token_line, number_line, program_lines, tokens_text, job_written, nat_tests, ◌*◌, decimal, Option, None, from_be_bytes, w32, Comma, behind_text, image_lines, token_text, window_tokens, windows_tokens, Window as Sight}
 use Rattle.job_text.proofs.SourceLemmas.{IsSound, all_both, end_tokens, program_form, program_tokens, written_line, written_tokens}
 use Rattle.std.proofs.lemmas.Fmt.{length-decimal-le}
-use Rattle.flat_machine.specs.declared.machine.Window.{Window as Sight}
 
 -- lines of tokens that can be written
 abbrev pub AreTokens : List (List Token) → Type 0

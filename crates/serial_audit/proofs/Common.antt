@@ -4,14 +4,10 @@ pub use Rattle.std.proofs.lemmas.Bool.Decides.{Decides-eqb, nat_tests}
 pub use Rattle.std.proofs.lemmas.List.{get_or-set_same, length-drop, length-set, length-take, map-append, take-append-drop, take_at, take_more, with_items_is, take_all}
 pub use Rattle.std.proofs.lemmas.Option.{option_and_then_some, slice_get-get_or, slice_get_past, slice_get_within, none-some, slice_get_read}
 pub use Rattle.std.proofs.lemmas.Slice.Eq.{slice_eq-Decides}
-pub use Rattle.std.specs.List.{All, AllByRecursion, Contains, join_with_byte, flat_map, range_with_len}
-pub use Rattle.serial_audit.specs.Below.{Event, FlatStore, Job, Plain, begun}
+pub use Rattle.serial_audit.specs.Below.{Event, FlatStore, Job, Plain, begun, All, AllByRecursion, Contains, join_with_byte, flat_map, range_with_len, Activation, before_commit, committing, if_commit, numbered, serial, Program, Layout, byte_count, Lines, both}
 pub use Rattle.desk.specs.declared.event.Event.TheVariants.{Begin, Turn}
 pub use Rattle.flat_machine.specs.After.{after, next_state}
 pub use Rattle.flat_machine.specs.Row.{outcome_by, row, Commit, Outcome}
-pub use Rattle.flat_machine.specs.Serial.{Activation, before_commit, committing, if_commit, numbered, serial}
-pub use Rattle.flat_machine.specs.declared.machine.Program.{Program}
-pub use Rattle.lines.specs.Directory.{Layout, byte_count}
 pub use Rattle.report_text.proofs.LineLemmas.{feed_of_words, not_both}
 pub use Rattle.serial_audit.specs.Audit.{AreSound, IsLineSound, ToldLine, activations_of, flat_of, limit_of, pair_of, report_told, steps_allowed, line_claim, IsFirstUnsound}
 pub use Rattle.serial_audit.specs.Bundle.{AreAllowed, HasHead, HasOneSplitting, IsBundle, IsWrongAt, Sizes, bundle_from, head_text, head_words, sizes_of}
@@ -19,7 +15,6 @@ pub use Rattle.serial_audit.specs.Progress.{IsEntry, IsFresh, IsIndex, activatio
 pub use Rattle.serial_audit.specs.declared.index.Allowance.{Allowance}
 pub use Rattle.std.proofs.lemmas.Grind.{common_steps, flat_map-append}
 pub use Rattle.flat_machine.specs.Due.{touched_next, touched_within}
-pub use Rattle.lines.specs.Conflicts.{Lines, both}
 pub use Rattle.serial_audit.specs.Trace.{AreTouches, touch_at, touches, touches_of_step, TraceIsEnough, lines_touched}
 pub use Rattle.serial_audit.specs.declared.touch.Touch.{Touch}
 pub use Rattle.std.proofs.lemmas.List.Elements.{Contains-append_cases, Contains-append_left, Contains-append_right, All-push}

@@ -1,10 +1,9 @@
 -- The lines of a trace are those that the agreement law asks for.
-use Rattle.serial_audit.proofs.Common.{◌≡◌, ℕ, zero, suc, ◌<◌, ◌||◌, Bool, true, false, List, [], ◌∷◌, map, Some, refl, sym, ◌∙◌, ap, arith, map-append, FlatStore, Lines, both, Plain, after, touched_next, touched_within, Outcome, Commit, row, Activation, if_commit, touch_at, touches, touches_of_step, nat_tests, option_and_then_some, none-some, TraceIsEnough, lines_touched}
+use Rattle.serial_audit.proofs.Lemmas.{◌≡◌, ℕ, zero, suc, ◌<◌, ◌||◌, Bool, true, false, List, [], ◌∷◌, map, Some, refl, sym, ◌∙◌, ap, arith, map-append, FlatStore, Lines, both, Plain, after, touched_next, touched_within, Outcome, Commit, row, Activation, if_commit, touch_at, touches, touches_of_step, nat_tests, option_and_then_some, none-some, TraceIsEnough, lines_touched, touches_more}
 use Rattle.lines.specs.Sets.{has}
 use Rattle.lines.proofs.SetLemmas.{has-append}
 use Rattle.flat_machine.specs.Agreement.{AgreeOn, DoesTheSame, SameWay, all_of, flat_line}
 use Rattle.flat_machine.proofs.Agreement.{agreement_enough}
-use Rattle.serial_audit.proofs.StepLemmas.{touches_more}
 
 -- the lines of a step's touches are all that it touches
 lines_of_kind : (step : ℕ) (store : Bool) (lines : List ℕ) → lines_touched (map (touch_at step store) lines) ≡ lines

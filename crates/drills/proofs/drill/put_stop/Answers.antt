@@ -1,6 +1,4 @@
-use Rattle.drills.proofs.Common.{◌≡◌, List, ℕ, append_assoc, rules, subst}
-use Rattle.drills.specs.Below.{PrintsBytes}
-use Rattle.drills.specs.Drilled.{stop_line}
+use Rattle.drills.proofs.Common.{◌≡◌, List, ℕ, append_assoc, rules, subst, stop_line, PrintsBytes}
 use Rattle.drills.proofs.drill.put_stop.Goals as goal
 
 pub returns-clause-puts : goal.returns-clause-puts

@@ -1,5 +1,4 @@
-use Rattle.job_text.proofs.Common.{arith}
-use Rattle.job_text.proofs.Lemmas.{List, ℕ, Bor, ap, first_cut, first_shorter, only_part}
+use Rattle.job_text.proofs.Lemmas.{List, ℕ, Bor, ap, first_cut, first_shorter, only_part, arith}
 use Rattle.std.specs.Option.{option_map}
 use Rattle.job_text.proofs.job_reading.next_line.Goals as goal
 

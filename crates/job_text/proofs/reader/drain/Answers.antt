@@ -1,5 +1,4 @@
-use Rattle.job_text.proofs.Lemmas.{common_steps, arith, sym, append-nil, round_more, rounds_short, rounds_within, round_fits}
-use Rattle.job_text.proofs.Common.{rounds_of}
+use Rattle.job_text.proofs.Lemmas.{common_steps, arith, sym, append-nil, round_more, rounds_short, rounds_within, round_fits, rounds_of}
 use Rattle.job_text.proofs.reader.drain.Goals as goal
 
 pub loop-round-init : goal.loop-round-init

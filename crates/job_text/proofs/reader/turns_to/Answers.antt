@@ -1,7 +1,4 @@
-use Rattle.job_text.proofs.DrainLemmas.{length-turns_to}
-use Rattle.job_text.proofs.Common.{length-append}
-use Rattle.job_text.proofs.Lemmas.{common_steps, arith, sym, append-nil, turn_more}
-use Rattle.job_text.proofs.Common.{turns_to}
+use Rattle.job_text.proofs.Lemmas.{common_steps, arith, sym, append-nil, turn_more, length-turns_to, length-append, turns_to}
 use Rattle.job_text.proofs.reader.turns_to.Goals as goal
 
 pub loop-before-init : goal.loop-before-init

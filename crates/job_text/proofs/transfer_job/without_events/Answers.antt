@@ -1,5 +1,4 @@
-use Rattle.job_text.proofs.Common.{ap, sym, ◌∙◌, job_of, arith, common_steps}
-use Rattle.job_text.proofs.BigLemmas.{never_faulty, sources_told}
+use Rattle.job_text.proofs.Lemmas.{ap, sym, ◌∙◌, job_of, arith, common_steps, never_faulty, sources_told}
 use Rattle.job_text.proofs.transfer_job.without_events.Goals as goal
 
 pub unreachable-requires : goal.unreachable-requires

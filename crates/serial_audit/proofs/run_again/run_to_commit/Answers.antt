@@ -1,5 +1,4 @@
-use Rattle.serial_audit.proofs.Common.{◌≡◌, ◌-◌, ◌<◌, Some, None, refl, sym, ◌∙◌, ap, arith, Plain, next_state, row}
-use Rattle.serial_audit.proofs.StepLemmas.{commit_at, no_commit, stopped, stops_early}
+use Rattle.serial_audit.proofs.Lemmas.{◌≡◌, ◌-◌, ◌<◌, Some, None, refl, sym, ◌∙◌, ap, arith, Plain, next_state, row, commit_at, no_commit, stopped, stops_early}
 use Rattle.serial_audit.proofs.run_again.run_to_commit.Goals as goal
 
 pub loop-row-init : goal.loop-row-init

@@ -1,5 +1,4 @@
-use Rattle.serial_audit.proofs.Common.{◌+◌, take, drop, take_all, report_told, line_claim}
-use Rattle.serial_audit.proofs.VerdictLemmas.{told_all, told_more, none_more}
+use Rattle.serial_audit.proofs.Lemmas.{◌+◌, take, drop, take_all, report_told, line_claim, told_all, told_more, none_more}
 use Rattle.serial_audit.proofs.touch_trace.first_commit.Goals as goal
 
 pub returns-then-commit-activation : goal.returns-then-commit-activation

@@ -1,9 +1,4 @@
-use Rattle.serial_audit.proofs.Common.{◌≡◌, rules, line_claim, activation_in}
-use Rattle.std.proofs.Common.{ap, sym, ◌∙◌}
-use Rattle.std.specs.Prelude.{true, false}
-use Rattle.serial_audit.proofs.Lemmas.{Decides-eqb, slice_eq-Decides}
-use Rattle.flat_machine.specs.declared.machine.Plain.{Plain}
-use Rattle.serial_audit.proofs.VerdictLemmas.{refused, same_activation, traced_sound}
+use Rattle.serial_audit.proofs.Lemmas.{Decides-eqb, slice_eq-Decides, ◌≡◌, rules, line_claim, activation_in, ap, sym, ◌∙◌, Plain, true, false, refused, same_activation, traced_sound}
 use Rattle.serial_audit.proofs.touch_trace.touches_of.Goals as goal
 
 pub returns-then-eq : goal.returns-then-eq

@@ -1,5 +1,4 @@
-use Rattle.serial_audit.proofs.Common.{[], ◌∷◌, take, refl, report_told, line_claim}
-use Rattle.serial_audit.proofs.VerdictLemmas.{sound_more, unsound_among}
+use Rattle.serial_audit.proofs.Lemmas.{[], ◌∷◌, take, refl, report_told, line_claim, sound_more, unsound_among}
 use Rattle.serial_audit.proofs.touch_trace.trace.Goals as goal
 
 pub returns-in-Err : goal.returns-in-Err

@@ -1,5 +1,4 @@
-use Rattle.serial_audit.proofs.Common.{◌≡◌, ◌+◌, ◌-◌, ◌<◌, Some, None, refl, sym, ◌∙◌, ap, add-one, arith, Plain, FlatStore, next_state, row, Activation, touches}
-use Rattle.serial_audit.proofs.StepLemmas.{commit_at, no_commit, stopped, stops_early, touches_next}
+use Rattle.serial_audit.proofs.Lemmas.{◌≡◌, ◌+◌, ◌-◌, ◌<◌, Some, None, refl, sym, ◌∙◌, ap, add-one, arith, Plain, FlatStore, next_state, row, Activation, touches, commit_at, no_commit, stopped, stops_early, touches_next}
 use Rattle.serial_audit.proofs.traced_run.run_traced.Goals as goal
 
 pub loop-step-init : goal.loop-step-init

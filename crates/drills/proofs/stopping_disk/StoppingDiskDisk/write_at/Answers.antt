@@ -1,5 +1,4 @@
-use Rattle.drills.proofs.Common.{◌≡◌, ◌+◌, ◌∙◌, IsStopping, inl, inr, subst, sym, disk_moment, disk_plan, disk_writes, false}
-use Rattle.drills.proofs.StoppingLemmas.{write-cut, write-done, write-left}
+use Rattle.drills.proofs.Lemmas.{◌≡◌, ◌+◌, ◌∙◌, IsStopping, inl, inr, subst, sym, disk_moment, disk_plan, disk_writes, false, write-cut, write-done, write-left}
 use Rattle.drills.proofs.stopping_disk.StoppingDiskDisk.write_at.Goals as goal
 
 pub invariant_of-self : goal.invariant_of-self

@@ -1,4 +1,4 @@
-use Rattle.std.proofs.Common.{◌∙◌}
+use Rattle.serial_audit.proofs.Lemmas.{◌∙◌}
 use Rattle.serial_audit.proofs.StepLemmas.{told_more}
 use Rattle.serial_audit.proofs.touch.Stretch.tell.Goals as goal
 
