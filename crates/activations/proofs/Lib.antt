@@ -7,6 +7,7 @@ pub mod ExecuteLemmas
 pub mod GetLemmas
 pub mod CheckCodes
 pub mod OpenLemmas
+pub mod GrantedLemmas
 pub mod GrantLemmas
 pub mod HoldingLemmas
 pub mod KeptLemmas

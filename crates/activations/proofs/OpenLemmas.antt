@@ -209,7 +209,7 @@ module _ (a : Activity) (seat : ℕ) (wants : List Want) (owned : List Authority
           ap not (given-stores now seat want.page (stores_into wants want.page) line (storing line is) (held-write want.page line few (here.writes line few ∙ is)))) i)
 
 -- Where no line is refused, and the pages are resident, all are open.
-opens : (state : Reach) (wants : List Want) → AreOfPage wants → All (λ want. refuses_want state.entries state.runner want ≡ false) wants
+pub opens : (state : Reach) (wants : List Want) → AreOfPage wants → All (λ want. refuses_want state.entries state.runner want ≡ false) wants
     → ((page : ℕ) → has (pages_wanted wants) page ≡ true → has state.pool.resident page ≡ true) → IsOpen state (lines_wanted wants)
 opens state wants sets free there = record {
   reads = λ line inside. each (λ want. want.reads) false (λ want none. (or_parts _ _ none).0) wants free there line (sym (has-wanted (λ want. want.reads) wants line sets.reads) ∙ inside);

@@ -1,7 +1,9 @@
 -- Pages that come in from the store on the disk; what the stages of a turn ask for, what each leaves, and why a turn ended before its commit call.
 use Rattle.std.specs.Prelude.{[], ◌≡◌, ℕ, ◌+◌, ◌<◌, if◌then◌else◌, true, false, List, Option, Some, option_to_list, ◌≤◌, ◌++◌, ◌∷◌, length, Result, Ok, Err, IfErr, OnErr, OnOk, Bool, nat_lt}
-use Rattle.activations.specs.Below.{array_vec_len, InFlight, Broken, brought, Check, Counts, fetches, Ghosts, has, held_of, holders, HoldsAtLeast, IsClean, PoolKeeps, StoreView, Layout, lines_wanted, number_in, On, OnlyAsks, Plain, Pool, Reach, ReadFailed, Request, Rose, row, sitter, Stands, stands, total, TracksStore, TurnEnd, Turning, victim_of, Want, DiskWord}
-use Rattle.activations.specs.Activity.{Activity, desk_over, program_in}
+use Rattle.page_table.specs.declared.segment_regs.Virtual.{Virtual}
+use Rattle.storage_unit.specs.Places.{is_private}
+use Rattle.activations.specs.Below.{Access, array_vec_len, located_by, InFlight, Broken, brought, Check, Counts, fetches, Ghosts, has, held_of, holders, HoldsAtLeast, IsClean, PoolKeeps, StoreView, Layout, lines_wanted, number_in, On, OnlyAsks, Plain, Pool, Reach, ReadFailed, Request, Rose, row, sitter, Stands, stands, total, TracksStore, TurnEnd, Turning, victim_of, Want, DiskWord}
+use Rattle.activations.specs.Activity.{Activity, desk_over, lines_accessed, live_in, program_in}
 use Rattle.activations.specs.Steps.{HasUndone, IsPoolMoved, IsRolledBack, with_other_pool, rolled, counted}
 use Rattle.desk.specs.declared.answers.Cycle.{Cycle}
 use Rattle.activations.specs.declared.tally.Tally.{Tally}
@@ -9,7 +11,7 @@ use Rattle.activations.specs.Kept.{IsSeatSelected, plain_in, KeepsParts, StandsS
 use Rattle.activations.specs.Follows.{KeepsDesk}
 use Rattle.activations.specs.Turning.{TalliesMore, IsEndOfRows, IfWaits, IsWanted, Serves, IsContestEnd, IsSettled, HasEnded, tally_counts, AreTurns, ComesBack, IsTurning, turn_in, IsServed, GoesUncounted}
 use Rattle.activations.specs.Serving.{IsFetched, IsToServe, IsFree, instruction_in, lines_with}
-use Rattle.activations.specs.Touched.{AreLetBut, AreWanted, pages_picked, pages_wanted, wants_of}
+use Rattle.activations.specs.Touched.{AreLetBut, AreWanted, pages_picked, pages_wanted, refuses_want, wants_of}
 use Rattle.activations.specs.declared.touched_lines.TouchedLines.{TouchedLines}
 use Rattle.desk.specs.declared.answers.TurnEnd.TheVariants as end
 
@@ -119,6 +121,20 @@ pub record MayGet (a : Activity) (seat : ℕ) (touch : TouchedLines) (picked : B
   pub wanted : AreWanted a.reach.directory (wants_of touch)
   pub touches : WillTouch a seat (wants_of touch)
   pub refused : AreLetBut a.reach.entries (seat + 1) (pages_picked touch picked) (wants_of touch)
+
+-- An access of who sits in a seat begins at this byte of the store and wants this of one page, which is in a frame, and whose entry refuses nothing
+-- of it.
+pub record IsLet (a : Activity) (seat : ℕ) (access : Access) (first : Virtual) (only : Want) : Type 0 where
+  pub some : 0 < access.bytes
+  pub few : access.bytes ≤ 64
+  pub taken : has a.seating.taken seat ≡ true
+  pub selected : IsSeatSelected a seat
+  pub located : located_by (live_in a seat).registers access.address access.bytes access.store ≡ Ok first
+  pub shared : is_private first.segment ≡ false
+  pub lines : lines_wanted (only ∷ []) ≡ lines_accessed a seat access
+  pub wanted : AreWanted a.reach.directory (only ∷ [])
+  pub free : refuses_want a.reach.entries (seat + 1) only ≡ false
+  pub there : (page : ℕ) → has (pages_wanted (only ∷ [])) page ≡ true → has a.reach.pool.resident page ≡ true
 
 -- what was counted has room for one instruction more
 pub record TallyHasRoom (a : Activity) (tally : Tally) : Type 0 where

@@ -5,13 +5,17 @@ ghost use Rattle.activations.specs.Below.{array_vec_len, has};
 use super::activations::Activations;
 use super::instructions::StepWent;
 use super::tally::Tally;
+use super::touched_lines::TouchedLines;
 use desk::TurnEnd;
 use outside::Outside;
+use page_table::Virtual;
 use romp_cpu::Access;
+use seats::Want;
+use storage_unit::PRIVATE;
 use store::Durable;
 
 impl Activations {
-    ghost use Rattle.activations.specs.Words.{AreRowsWithin, CanFetch, CanServe, CountsPages, EndsByDisk, GoesFar, IsSeatSelected, KeepsAll, KeepsParts, KeepsTurning, MayBeShut, RunsTurn, selected_in, StaysCalm, StaysSeated};
+    ghost use Rattle.activations.specs.Words.{AreRowsWithin, CanFetch, CanServe, CountsPages, EndsByDisk, GoesFar, IsLet, IsSeatSelected, KeepsAll, KeepsParts, KeepsTurning, MayBeShut, RunsTurn, selected_in, StaysCalm, StaysSeated};
 
     /// The rows of a turn of who sits in a seat, at most so many, up to his commit call. Nothing was counted before.
     ///
@@ -81,21 +85,32 @@ impl Activations {
         let Some(access) = shut else {
             return Ok(None);
         };
+        let Ok(first) = self.locate(seat, access) else {
+            return Ok(shut);
+        };
         let touch = self.touch_of(seat, access);
+        let TouchedLines::One(only) = &touch else {
+            return Ok(shut);
+        };
+        if first.segment >= PRIVATE {
+            return Ok(shut);
+        }
         if !self.is_granted(seat, &touch) {
             return Ok(shut);
         }
         self.bring(store, outside, seat, &touch, tally)?;
-        self.look_up(access);
+        self.look_up(seat, access, first, only);
         Ok(None)
     }
 
-    /// The line of an access is opened, so that the next one finds it known.
+    /// The line of an access that may be made in one page, in which it wants this, is opened, so that the next one finds it
+    /// known.
     #[inline(always)]
-    fn look_up(&mut self, access: Access)
+    fn look_up(&mut self, _seat: u8, access: Access, first: Virtual, only: &Want)
+        requires { IsLet self.old _seat access first only.now }
         ensures { self.new ≡ self.old }
     {
-        self.unit.open_line(&access);
+        self.unit.open_granted(&access, first, only.page);
     }
 
     /// After a row that took effect and isn't counted yet, the next ones, at most so many, up to one that doesn't go on by

@@ -1,6 +1,6 @@
 -- The lines that a unit knows: each may be accessed.
 use Rattle.std.specs.Prelude.{◌≡◌, ℕ, ◌+◌, ◌*◌, ◌/◌, ◌%◌, ◌≤◌, ◌<◌, Bool, true, false, List, [], slice_index_or, Some, Result, Ok, Err}
-use Rattle.storage_unit.specs.Below.{Access, entry_at, grant_of, has, key_of, Layout, lets, line_of, located_by, look_up, page_bytes, page_of_line, Placed, Probe, Registers, Virtual}
+use Rattle.storage_unit.specs.Below.{Access, entry_at, grant_of, has, key_of, Layout, lets, line_of, located_by, look_up, page_bytes, page_of, page_of_line, Placed, Probe, Registers, Virtual}
 use Rattle.page_table.specs.declared.open_lines.OpenLines.{OpenLines}
 use Rattle.page_table.specs.declared.segment_regs.Check.{Check}
 use Rattle.page_table.specs.KnownLines.{known}
@@ -52,6 +52,13 @@ pub record IsOpenAt (state : Reach) (wants : Access) (at : Virtual) (found : ℕ
   pub located : begins_at state wants ≡ Ok at
   pub within : at.byte + wants.bytes ≤ page_bytes state.directory.page
   pub frame : frame_found state at ≡ Some found
+  pub permitted : answer_to state wants ≡ Probe.Permitted
+
+-- an access may be made: it begins at this byte of the store, which is of this page
+pub record IsGrantedIn (state : Reach) (wants : Access) (at : Virtual) (page : ℕ) : Type 0 where
+  pub located : begins_at state wants ≡ Ok at
+  pub shared : is_private at.segment ≡ false
+  pub is : page ≡ page_of state.directory (flat_place state.directory at)
   pub permitted : answer_to state wants ≡ Probe.Permitted
 
 -- the lines of so many bytes from one on are marked, where they are of the store

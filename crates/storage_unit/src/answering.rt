@@ -6,7 +6,7 @@ ghost use Rattle.storage_unit.specs.Reach.{answer_to, begins_at, refuses_past, r
 ghost use Rattle.storage_unit.specs.Reached.{is_absent, Lies, past_absent, past_kept, past_refused};
 ghost use Rattle.storage_unit.specs.Held.{frame_found};
 ghost use Rattle.storage_unit.specs.Accesses.{AnswersAt};
-ghost use Rattle.storage_unit.specs.OpenLines.{IsMarkedAt, IsOpenAt, IsOpenSpot};
+ghost use Rattle.storage_unit.specs.OpenLines.{IsGrantedIn, IsMarkedAt, IsOpenAt, IsOpenSpot};
 
 use super::private::PRIVATE;
 use super::sizes::{byte_past, first_frame, is_in_line, offset_of, rest_of_line, spot_of};
@@ -315,19 +315,19 @@ impl Unit {
         }
     }
 
-    /// The line of an access that lies in one block of 128 addresses is known from now on, if the access may be made. All else
-    /// stays.
-    #[inline(never)]
-    pub fn open_line(&mut self, wants: &Access)
+    /// The line of an access that may be made in a page of the store, which is in a frame, is known from now on where it lies
+    /// in one block of 128 addresses. All else stays.
+    #[inline(always)]
+    pub fn open_granted(&mut self, wants: &Access, first: Virtual, page: u16)
+        requires few { (0 < wants.now.bytes) × (wants.now.bytes ≤ 64) }
+        requires granted { IsGrantedIn (reach_of self.old) wants.now first page }
         ensures { reach_of self.new ≡ reach_of self.old }
     {
-        let wants = *wants;
-        let bytes = u32::from(wants.bytes);
-        if bytes == 0 || bytes > 64 || wants.address % 128 + bytes > 128 {
+        if wants.address % 128 + u32::from(wants.bytes) > 128 {
             return;
         }
-        if let Ok(first) = self.registers.locate(wants.address, bytes, wants.store) {
-            let _ = self.open(&wants, first);
+        if let Some(frame) = self.pool.frame_of(page) {
+            self.keep_block(wants, first, frame, 0);
         }
     }
 }

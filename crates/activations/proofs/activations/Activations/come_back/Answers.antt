@@ -1,4 +1,6 @@
-use Rattle.activations.proofs.Lemmas.{KeepsParts, keeps-pool, refl, Result, sym, ◌∙◌, subst, TurnEnd, Activity, Tally, IsTurning, ComesBack, HasEnded, HasBroken, wants_of, instruction_in, with_other_pool, tally_counts, keeps-broke, is-to-serve, prepare-broke, handed, turn-ends, under, turn-back, rules}
+use Rattle.activations.specs.Stages.{IsLet}
+use Rattle.activations.proofs.GrantedLemmas.{let-in}
+use Rattle.activations.proofs.Lemmas.{arith, nat_tests, KeepsParts, keeps-pool, refl, Result, sym, ◌∙◌, subst, TurnEnd, Activity, Tally, IsTurning, ComesBack, HasEnded, HasBroken, wants_of, instruction_in, with_other_pool, tally_counts, keeps-broke, is-to-serve, prepare-broke, handed, turn-ends, under, turn-back, rules}
 use Rattle.desk.specs.declared.answers.TurnEnd.TheVariants as end
 use Rattle.activations.proofs.activations.Activations.come_back.Goals as goal
 
@@ -39,3 +41,16 @@ returns-then-not-is_granted-clause-keeps g c = record { asks = search rules; par
 
 pub returns-in_default-clause-keeps : goal.returns-in_default-clause-keeps
 returns-in_default-clause-keeps g c = record { asks = search rules; parts = search rules }
+
+pub returns-then-first-ge-PRIVATE-clause-keeps : goal.returns-then-first-ge-PRIVATE-clause-keeps
+returns-then-first-ge-PRIVATE-clause-keeps g c = record { asks = search rules; parts = search rules }
+
+pub returns-in_default-locate-clause-keeps : goal.returns-in_default-locate-clause-keeps
+returns-in_default-locate-clause-keeps g c = record { asks = search rules; parts = search rules }
+
+pub look_up-requires : goal.look_up-requires
+look_up-requires g c =
+    let shut = c.requires.shut c.in-Some.access c.in-Some.is in
+    subst (λ (x : Activity). IsLet x c.args.seat c.in-Some.access c.in-Ok.first c.in-One.only) (sym c.in_ok-bring.ensures.shape)
+    (let-in c.args.self.now c.args.seat c.in-Some.access c.in-Ok.first c.in-One.only c.touch_of-touch.result c.bring.new.self.reach.pool c.in-One.is shut.some shut.few c.requires.can.taken c.requires.can.selected
+    (sym c.locate.ensures ∙ c.in-Ok.is) (grind (arith, nat_tests, c.if-first-ge-PRIVATE.false)) c.touch_of-touch.ensures.lines c.touch_of-touch.ensures.wanted (sym c.is_granted.ensures ∙ c.if-not-is_granted.false) c.in_ok-bring.ensures.brings.fetched.resident)
