@@ -1,5 +1,5 @@
 -- Who sits in a seat, and what runs there, when one seat changes; and what leaves all sound.
-use Rattle.activations.proofs.Common.{◌≡◌, refl, ℕ, zero, suc, ◌+◌, ◌-◌, ◌<◌, ◌==◌, true, false, List, length, slice_index_or, slice_set, None, [], arith, ap, sym, ◌∙◌, subst, get_or-set_same, get_or-set_other, set-set, eqb-true, eqb-false, has, over_all, Seat, Seating, sitter, number_in, newcomer, with_sitter, went_on, private_bytes, plain_over, Live, Activity, nothing_runs, live_in, state_in, shown, entry_for, entry_in, number_under, counted, nat_tests, inl, inr, cases_Bool, All, AllPairs, ForSome, length-set, All-set, AreWithin, Request, Pool, registers_of_program, IsSeating, taken-below, AreOfPage, private_segment, program_at, IsActivitySound, ◌≤◌, IsState, store_over, state_for, reprinted, KeepsDesk, Reach, bytes_over, executed, IsSetUp, both_ways, Authority, page_count, unowned, IsIdentified}
+use Rattle.activations.proofs.Common.{◌≡◌, refl, ℕ, zero, suc, ◌+◌, ◌-◌, ◌<◌, ◌==◌, true, false, List, length, slice_index_or, slice_set, None, [], arith, ap, sym, ◌∙◌, subst, get_or-set_same, get_or-set_other, set-get_or, set-set, eqb-true, eqb-false, has, over_all, Seat, Seating, sitter, number_in, newcomer, with_sitter, went_on, private_bytes, plain_over, Live, Activity, nothing_runs, live_in, state_in, shown, entry_for, entry_in, number_under, counted, nat_tests, inl, inr, cases_Bool, All, AllPairs, ForSome, length-set, All-set, AreWithin, Request, Pool, registers_of_program, IsSeating, taken-below, AreOfPage, private_segment, program_at, IsActivitySound, ◌≤◌, IsState, store_over, state_for, reprinted, KeepsDesk, Reach, bytes_over, executed, IsSetUp, both_ways, Authority, page_count, unowned, IsIdentified}
 use Rattle.page_table.specs.declared.segment_regs.SegmentRegs.{SegmentRegs}
 
 module _ (seating : Seating) (seat : ℕ) (who : Seat) (sixteen : length seating.sitters ≡ 16) (below : seat < 16) where
@@ -77,6 +77,14 @@ counted-more a seat rows sixteen below i = record a { seating = record a.seating
         let rows_are : (sitter a.seating seat).rows + rows + 1 ≡ (sitter a.seating seat).rows + (rows + 1) = omega arith in
         set-set a.seating.sitters seat once (record (sitter (with_sitter a.seating seat once) seat) { rows = (sitter (with_sitter a.seating seat once) seat).rows + 1; waits = None })
         ∙ ap (slice_set a.seating.sitters seat) (ap (λ (who : Seat). record who { rows = who.rows + 1; waits = None }) is ∙ (λ i. record (sitter a.seating seat) { rows = rows_are i; waits = None }))
+
+-- who waits for nothing, and has done no row more, is as he was
+pub counted-none : (a : Activity) (seat : ℕ) → (sitter a.seating seat).waits ≡ None → counted a seat 0 ≡ a
+counted-none a seat calm =
+    let rows : (sitter a.seating seat).rows + 0 ≡ (sitter a.seating seat).rows = omega arith in
+    let free = sym calm in
+    (λ i. record a { seating = with_sitter a.seating seat (record (sitter a.seating seat) { rows = rows i; waits = free i }) })
+    ∙ ap (λ (sitters : List Seat). record a { seating = record a.seating { sitters = sitters } }) (set-get_or a.seating.sitters seat (newcomer 0 0 []))
 
 -- numbers may have been given, frames may have other pages, pages other entries, and another seat may be selected
 pub sound-beside : (a : Activity) (next : ℕ) (pool : Pool) (owned : List Authority) (registers : SegmentRegs) (runner : ℕ) → IsActivitySound a → All (λ seat. number_in a.seating seat < next) a.seating.taken

@@ -14,23 +14,23 @@ pub turn-begins : (a : Activity) (seat limit : ℕ) (committed : List ℕ) (orde
 turn-begins a seat limit committed order counts follows = record { comes = λ word reads. refl; follows = follows }
 
 -- rows that were strode over
-pub turn-strides : (begins : DiskWord → Turning) (a after : Activity) (seat rows ran left : ℕ) (committed : List ℕ) (order : List (ℕ × ℕ)) (counts : Counts) → IsActivitySound a → has a.seating.taken seat ≡ true
-    → Strode a seat ran after → 1 + ran ≡ 1 + rows → IsTurning begins (counted a seat 1) seat (rows + left) committed order (record counts { ran = counts.ran + 1 })
-    → IsTurning begins (counted after seat (1 + ran)) seat left committed order (record counts { ran = counts.ran + (1 + ran) })
-turn-strides begins a after seat rows ran left committed order counts sound taken strode same turning =
-    let number : number_in (counted a seat 1).seating seat ≡ number_in a.seating seat = number-counted a seat 1 sound.seating.sixteen (taken-below a.seating sound.seating seat taken) seat in
+pub turn-strides : (begins : DiskWord → Turning) (a after : Activity) (seat done rows ran left : ℕ) (committed : List ℕ) (order : List (ℕ × ℕ)) (counts : Counts) → IsActivitySound a → has a.seating.taken seat ≡ true
+    → Strode a seat ran after → done + ran ≡ done + rows → IsTurning begins (counted a seat done) seat (rows + left) committed order (record counts { ran = counts.ran + done })
+    → IsTurning begins (counted after seat (done + ran)) seat left committed order (record counts { ran = counts.ran + (done + ran) })
+turn-strides begins a after seat done rows ran left committed order counts sound taken strode same turning =
+    let number : number_in (counted a seat done).seating seat ≡ number_in a.seating seat = number-counted a seat done sound.seating.sixteen (taken-below a.seating sound.seating seat taken) seat in
     let first : rows ≡ ran = omega (arith, same) in
-    let sum : counts.ran + 1 + ran ≡ counts.ran + (1 + ran) = omega arith in
-    let later : number_in a.seating seat ≡ number_in (counted after seat (1 + ran)).seating seat =
+    let sum : counts.ran + done + ran ≡ counts.ran + (done + ran) = omega arith in
+    let later : number_in a.seating seat ≡ number_in (counted after seat (done + ran)).seating seat =
     ap (λ (s : Seating). number_in s seat) (sym strode.seating)
-    ∙ sym (number-counted after seat (1 + ran) (ap (λ (s : Seating). length s.sitters) strode.seating ∙ sound.seating.sixteen) (taken-below a.seating sound.seating seat taken) seat) in
+    ∙ sym (number-counted after seat (done + ran) (ap (λ (s : Seating). length s.sitters) strode.seating ∙ sound.seating.sixteen) (taken-below a.seating sound.seating seat taken) seat) in
     record {
       comes = λ word reads.
           turning.comes word reads
-          ∙ (λ i. turns word (number i) (first i + left) (Going (desk_over (counted a seat 1) committed order) (record counts { ran = counts.ran + 1 })))
-          ∙ strode.turns word committed order 1 left (record counts { ran = counts.ran + 1 }) turning.follows
-          ∙ (λ i. turns word (later i) left (Going (desk_over (counted after seat (1 + ran)) committed order) (record counts { ran = sum i })));
-      follows = strode.follows committed 1 turning.follows;
+          ∙ (λ i. turns word (number i) (first i + left) (Going (desk_over (counted a seat done) committed order) (record counts { ran = counts.ran + done })))
+          ∙ strode.turns word committed order done left (record counts { ran = counts.ran + done }) turning.follows
+          ∙ (λ i. turns word (later i) left (Going (desk_over (counted after seat (done + ran)) committed order) (record counts { ran = sum i })));
+      follows = strode.follows committed done turning.follows;
     }
 
 -- pages before one that can't be read can be

@@ -1,5 +1,5 @@
 -- Pages that come in from the store on the disk; what the stages of a turn ask for, what each leaves, and why a turn ended before its commit call.
-use Rattle.std.specs.Prelude.{[], ◌≡◌, ℕ, ◌+◌, ◌<◌, if◌then◌else◌, true, false, List, Option, Some, option_to_list, ◌≤◌, ◌++◌, ◌∷◌, length, Result, Ok, Err, IfErr, OnErr, OnOk, Bool, nat_lt}
+use Rattle.std.specs.Prelude.{[], ◌≡◌, ℕ, ◌+◌, ◌-◌, ◌<◌, if◌then◌else◌, true, false, List, Option, Some, option_to_list, ◌≤◌, ◌++◌, ◌∷◌, length, Result, Ok, Err, IfErr, OnErr, OnOk, Bool, nat_lt}
 use Rattle.page_table.specs.declared.segment_regs.Virtual.{Virtual}
 use Rattle.storage_unit.specs.Places.{is_private}
 use Rattle.activations.specs.Below.{Access, array_vec_len, located_by, InFlight, Broken, brought, Check, Counts, fetches, Ghosts, has, held_of, holders, HoldsAtLeast, IsClean, PoolKeeps, StoreView, Layout, lines_wanted, number_in, On, OnlyAsks, Plain, Pool, Reach, ReadFailed, Request, Rose, row, sitter, Stands, stands, total, TracksStore, TurnEnd, Turning, victim_of, Want, DiskWord}
@@ -294,11 +294,32 @@ KeepsTurning G store outside seat old new before after result =
     (begins : DiskWord → Turning) (left : ℕ) (committed : List ℕ) (order : List (ℕ × ℕ)) → 0 < left → IsStoreOf G store outside committed
     → IsTurning begins old seat left committed order (tally_counts before) → ComesBack result begins new seat left committed order (tally_counts after)
 
--- so many rows of a turn went, of which the first took effect before
-abbrev pub GoesFar : (seat ran : ℕ) → (old new : Activity) → Type 0
-GoesFar seat ran old new =
-    (begins : DiskWord → Turning) (committed : List ℕ) (order : List (ℕ × ℕ)) (counts : Counts) (rows left : ℕ) → ran ≡ 1 + rows
-    → IsTurning begins (counted old seat 1) seat (rows + left) committed order (record counts { ran = counts.ran + 1 })
+-- how many rows went where a page came in
+abbrev pub rows_in : {S : Type 0} → Result (ℕ × S) TurnEnd → ℕ
+rows_in (Ok went) = went.0
+rows_in (Err end) = 0
+
+-- so many rows and at most two pages more were counted, and nothing else
+pub record CountsFar (rows : ℕ) (old new : Tally) : Type 0 where
+  pub rest : new ≡ record old { ran = old.ran + rows; pages = new.pages }
+  pub more : old.pages ≤ new.pages
+  pub few : new.pages ≤ old.pages + 2
+
+-- a turn that comes to some rows more comes to as many but those that went, or to its end
+abbrev pub ComesFar : {S : Type 0} → Result (ℕ × S) TurnEnd → (begins : DiskWord → Turning) → Activity → (seat left : ℕ) → (committed : List ℕ) → (order : List (ℕ × ℕ)) → Counts → Type 0
+ComesFar (Ok went) begins a seat left committed order counts = IsTurning begins a seat (left - went.0) committed order counts
+ComesFar (Err end) begins a seat left committed order counts = HasEnded end begins a committed order counts
+
+abbrev pub TurnsFar : {S W : Type 0} → Ghosts W → StoreView → W → (seat left : ℕ) → (old new : Activity) → (before after : Tally) → Result (ℕ × S) TurnEnd → Type 0
+TurnsFar G store outside seat left old new before after result =
+    (begins : DiskWord → Turning) (committed : List ℕ) (order : List (ℕ × ℕ)) → IsStoreOf G store outside committed
+    → IsTurning begins old seat left committed order (tally_counts before) → ComesFar result begins new seat left committed order (tally_counts after)
+
+-- so many rows of a turn went, of which the first so many took effect before
+abbrev pub GoesFar : (seat done ran : ℕ) → (old new : Activity) → Type 0
+GoesFar seat done ran old new =
+    (begins : DiskWord → Turning) (committed : List ℕ) (order : List (ℕ × ℕ)) (counts : Counts) (rows left : ℕ) → ran ≡ done + rows
+    → IsTurning begins (counted old seat done) seat (rows + left) committed order (record counts { ran = counts.ran + done })
     → IsTurning begins new seat left committed order (record counts { ran = counts.ran + ran })
 
 -- the row of who sits in a seat, whose access was served, takes effect

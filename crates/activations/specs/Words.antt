@@ -5,7 +5,7 @@ pub use Rattle.activations.specs.Follows.{AlwaysHolds, IsActivitySound, KeepsDes
 pub use Rattle.activations.specs.Kept.{AreRowsWithin, IsSeatSelected, IsLineShut, KeepsParts, StaysSeated, WillTouch}
 pub use Rattle.activations.specs.Recorded.{HasWritten, IsItsStore, IsRecordOf, LaidIsCommitted, with_lines}
 pub use Rattle.activations.specs.Serving.{Grants, GrantsPicked, lines_with, locked, Lowers, with_entries}
-pub use Rattle.activations.specs.Stages.{AreAwaited, PagesComeIn, CanFetch, CanServe, ComesIn, ComesOut, CountsOne, CountsPages, CountsRefused, Disputes, EndsByDisk, EndsChecked, Fetches, GoesFar, GoesServed, HasCome, TallyHasRoom, IsLet, IsOver, KeepsAll, KeepsLimit, KeepsStore, KeepsTurning, MayGet, RunsTurn, ServesFree, SettlesAsked, StaysCalm}
+pub use Rattle.activations.specs.Stages.{AreAwaited, PagesComeIn, CanFetch, CanServe, ComesIn, ComesOut, CountsFar, CountsOne, CountsPages, CountsRefused, Disputes, EndsByDisk, EndsChecked, Fetches, GoesFar, GoesServed, HasCome, TallyHasRoom, IsLet, IsOver, KeepsAll, KeepsLimit, KeepsStore, KeepsTurning, MayGet, rows_in, RunsTurn, ServesFree, SettlesAsked, StaysCalm, TurnsFar}
 pub use Rattle.activations.specs.Steps.{EndsWritten, IsDeserted, IsPoolMoved, IsRestarted, LeavesRolled, LeavesWritten, reprinted, rolled, with_other_pool, wrote}
 pub use Rattle.activations.specs.Touched.{AreWanted, page_if, pages_picked, pages_wanted, wants_of, with_whole_page}
 pub use Rattle.activations.specs.Turning.{IsInstruction, IsStepTaken, MayBeShut, Prepares, selected_in, Settles}

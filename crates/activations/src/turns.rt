@@ -1,6 +1,6 @@
 // The rows of a turn, one after another.
-ghost use Rattle.std.specs.Prelude.{◌≡◌, ◌+◌, ◌<◌, ◌≤◌, ◌^◌, true, length, IfErr, IfOk, OnOk};
-ghost use Rattle.activations.specs.Below.{array_vec_len, has};
+ghost use Rattle.std.specs.Prelude.{◌≡◌, ◌+◌, ◌<◌, ◌≤◌, ◌^◌, true, length, IfErr, IfOk, IsSome, None, OnOk};
+ghost use Rattle.activations.specs.Below.{array_vec_len, has, sitter};
 
 use super::activations::Activations;
 use super::instructions::StepWent;
@@ -15,7 +15,7 @@ use storage_unit::PRIVATE;
 use store::Durable;
 
 impl Activations {
-    ghost use Rattle.activations.specs.Words.{AreRowsWithin, CanFetch, CanServe, CountsPages, EndsByDisk, GoesFar, IsLet, IsSeatSelected, KeepsAll, KeepsParts, KeepsTurning, MayBeShut, RunsTurn, selected_in, StaysCalm, StaysSeated};
+    ghost use Rattle.activations.specs.Words.{AreRowsWithin, CanFetch, CanServe, CountsFar, CountsPages, EndsByDisk, GoesFar, IsLet, IsSeatSelected, KeepsAll, KeepsParts, KeepsTurning, MayBeShut, rows_in, RunsTurn, selected_in, StaysCalm, StaysSeated, TurnsFar};
 
     /// The rows of a turn of who sits in a seat, at most so many, up to his commit call. Nothing was counted before.
     ///
@@ -42,19 +42,66 @@ impl Activations {
         let mut left = limit;
         let mut shut = None;
         while left > 0 {
-            let shut_still = self.come_back(store, outside, seat, shut, tally)?;
+            let (ran, still) = self.come_far(store, outside, seat, shut, left, tally)?;
+            if ran > 0 {
+                left -= ran;
+                shut = still;
+                continue;
+            }
             self.sound();
-            match self.instruct(store, outside, seat, shut_still, tally)? {
+            match self.instruct(store, outside, seat, still, tally)? {
                 StepWent::AtCommit => return Ok(()),
                 StepWent::On => {
                     self.sound();
-                    let (ran, access) = self.go_far(seat, left - 1, tally);
-                    left -= ran;
+                    let (more, access) = self.go_far(seat, 1, left - 1, tally);
+                    left -= more;
                     shut = access;
                 }
             }
         }
         Err(TurnEnd::Limit)
+    }
+
+    /// The page of an access that isn't permitted comes in as by [`Activations::come_back`], and then the rows from that of the
+    /// access on are done, at most so many: how many, and the access of the next one where it isn't permitted. Where the page
+    /// doesn't come in, none is.
+    ///
+    /// # Errors
+    ///
+    /// The end of the turn: the page can't be read.
+    #[inline(always)]
+    fn come_far<W: Outside>(
+        &mut self,
+        store: &Durable,
+        outside: &mut W,
+        seat: u8,
+        shut: Option<Access>,
+        left: u32,
+        tally: &mut Tally,
+    ) -> Result<(u32, Option<Access>), TurnEnd>
+        requires can { CanServe W.Outside self.old seat store.now outside.old }
+        requires shut { MayBeShut self.old seat shut }
+        requires calm { IsSome shut → (sitter self.old.seating seat).waits ≡ None }
+        requires few { tally.old.pages + 2 < 2 ^ 32 }
+        requires left { (0 < left) × (left ≤ 1000000) }
+        requires rows { AreRowsWithin self.old (2 ^ 63 + 1000000) }
+        requires ran { tally.old.ran < 2000000 }
+        ensures few { rows_in result ≤ left }
+        ensures keeps { KeepsAll W.Outside self.old self.new (rows_in result) outside.old outside.new }
+        ensures counts { CountsFar (rows_in result) tally.old tally.new }
+        ensures on { OnOk result (StaysCalm W.Outside self.old self.new seat outside.old outside.new) }
+        ensures calm { 0 < rows_in result → (sitter self.new.seating seat).waits ≡ None }
+        ensures seated { OnOk result (length self.new.seating.taken ≡ length self.old.seating.taken) }
+        ensures ends { IfErr result (EndsByDisk W.Outside outside.old outside.new tally.old tally.new) }
+        ensures shut { IfOk result (λ went. MayBeShut self.new seat went.1) }
+        ensures turns { TurnsFar W.Outside store.now outside.old seat left self.old self.new tally.old tally.new result }
+    {
+        let still = self.come_back(store, outside, seat, shut, tally)?;
+        if shut.is_none() || still.is_some() {
+            return Ok((0, still));
+        }
+        self.sound();
+        Ok(self.go_far(seat, 0, left, tally))
     }
 
     /// The page of an access that isn't permitted comes in, where the access is of one page, whose entry refuses none of its
@@ -80,6 +127,7 @@ impl Activations {
         ensures on { OnOk result (StaysCalm W.Outside self.old self.new seat outside.old outside.new) }
         ensures ends { IfErr result (EndsByDisk W.Outside outside.old outside.new tally.old tally.new) }
         ensures shut { IfOk result (λ still. MayBeShut self.new seat still) }
+        ensures seating { OnOk result (self.new.seating ≡ self.old.seating) }
         ensures turns { KeepsTurning W.Outside store.now outside.old seat self.old self.new tally.old tally.new result }
     {
         let Some(access) = shut else {
@@ -113,28 +161,35 @@ impl Activations {
         self.unit.open_granted(&access, first, only.page);
     }
 
-    /// After a row that took effect and isn't counted yet, the next ones, at most so many, up to one that doesn't go on by
-    /// itself. All are counted then: how many, and the access of the last one where it isn't permitted.
-    fn go_far(&mut self, seat: u8, limit: u32, tally: &mut Tally) -> (u32, Option<Access>)
+    /// After so many rows that took effect and aren't counted yet, the next ones, at most so many, up to one that doesn't go on
+    /// by itself. All are counted then: how many, and the access of the next one where it isn't permitted.
+    fn go_far(
+        &mut self,
+        seat: u8,
+        done: u32,
+        limit: u32,
+        tally: &mut Tally,
+    ) -> (u32, Option<Access>)
         requires taken { has self.old.seating.taken seat ≡ true }
         requires selected { IsSeatSelected self.old seat }
-        requires limit { limit < 1000000 }
+        requires limit { done + limit ≤ 1000000 }
         requires rows { AreRowsWithin self.old (2 ^ 63 + 1000000) }
         requires tally { tally.old.ran < 2000000 }
-        ensures some { 1 ≤ result.0 }
-        ensures few { result.0 ≤ limit + 1 }
+        ensures some { done ≤ result.0 }
+        ensures few { result.0 ≤ done + limit }
         ensures tally { tally.new ≡ record tally.old { ran = tally.old.ran + result.0 } }
         ensures parts { KeepsParts self.old self.new result.0 }
         ensures stays { StaysSeated self.old self.new seat }
         ensures taken { self.new.seating.taken ≡ self.old.seating.taken }
         ensures shut { MayBeShut self.new seat result.1 }
-        ensures gone { GoesFar seat result.0 self.old self.new }
+        ensures calm { (sitter self.new.seating seat).waits ≡ None }
+        ensures gone { GoesFar seat done result.0 self.old self.new }
     {
         self.sound();
         let (ran, access) = self.stride(seat, limit);
-        self.seats.go_on(seat, 1 + ran);
-        tally.ran += 1 + ran;
-        (1 + ran, access)
+        self.seats.go_on(seat, done + ran);
+        tally.ran += done + ran;
+        (done + ran, access)
     }
 
     /// The unit is what a seat reaches from now on.

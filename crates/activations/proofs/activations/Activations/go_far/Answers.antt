@@ -1,4 +1,4 @@
-use Rattle.activations.proofs.Lemmas.{activity_of, counted, MayBeShut, Program, Seat, plain_in, program_at, program_in, taken-below, ◌≡◌, Activity, counted-of, has, Seating, IsActivitySound, KeepsParts, IsTurning, ◌+◌, ◌∙◌, arith, ap, sym, subst, keeps-counted, keeps-on, sound-counted, turn-strides, IsShutOut, sitter-there}
+use Rattle.activations.proofs.Lemmas.{None, sitter, activity_of, counted, MayBeShut, Program, Seat, plain_in, program_at, program_in, taken-below, ◌≡◌, Activity, counted-of, has, Seating, IsActivitySound, KeepsParts, IsTurning, ◌+◌, ◌∙◌, arith, ap, sym, subst, keeps-counted, keeps-on, sound-counted, turn-strides, IsShutOut, sitter-there}
 use Rattle.activations.proofs.activations.Activations.go_far.Goals as goal
 
 pub invariant_of-self : goal.invariant_of-self
@@ -8,7 +8,7 @@ invariant_of-self c =
 
 pub returns-clause-parts : goal.returns-clause-parts
 returns-clause-parts c =
-    let ran = 1 + c.stride-ran.result.0 in
+    let ran = c.args.done + c.stride-ran.result.0 in
     let a = c.stride-ran.new.self in
     let taken = ap (λ (s : Seating). has s.taken c.args.seat) c.stride-ran.ensures.strode.seating ∙ c.requires.taken in
     subst (λ (x : Activity). KeepsParts c.args.self.now x ran) (sym (counted-of c.self.inside c.self.view_is c.args.seat ran _ c.go_on.ensures))
@@ -17,14 +17,14 @@ returns-clause-parts c =
 
 pub returns-clause-gone : goal.returns-clause-gone
 returns-clause-gone c begins committed order counts rows left same turning =
-    let ran = 1 + c.stride-ran.result.0 in
+    let ran = c.args.done + c.stride-ran.result.0 in
     subst (λ (x : Activity). IsTurning begins x c.args.seat left committed order (record counts { ran = counts.ran + ran })) (sym (counted-of c.self.inside c.self.view_is c.args.seat ran _ c.go_on.ensures))
-    (turn-strides begins c.args.self.now c.stride-ran.new.self c.args.seat rows c.stride-ran.result.0 left committed order counts c.sound.ensures.sound c.requires.taken c.stride-ran.ensures.strode same turning)
+    (turn-strides begins c.args.self.now c.stride-ran.new.self c.args.seat c.args.done rows c.stride-ran.result.0 left committed order counts c.sound.ensures.sound c.requires.taken c.stride-ran.ensures.strode same turning)
 
 pub returns-clause-shut : goal.returns-clause-shut
 returns-clause-shut c =
     let a = c.stride-ran.new.self in let seat = c.args.seat in
-    let ran = 1 + c.stride-ran.result.0 in
+    let ran = c.args.done + c.stride-ran.result.0 in
     let sound = subst IsActivitySound c.self.view_is c.self.invariant in
     let taken = ap (λ (s : Seating). has s.taken seat) c.stride-ran.ensures.strode.seating ∙ c.requires.taken in
     let program : program_in (counted a seat ran) seat ≡ program_in a seat =
@@ -32,3 +32,12 @@ returns-clause-shut c =
     subst (λ (x : Activity). MayBeShut x seat c.stride-ran.result.1) (sym (counted-of c.self.inside c.self.view_is seat ran _ c.go_on.ensures)) (λ access is.
     let shut = c.stride-ran.ensures.shut access is in
     record { some = shut.some; few = shut.few; shut = λ committed long. subst (λ (p : Program). IsShutOut p a.reach (plain_in a seat committed) access) (sym program) (shut.shut committed long) })
+
+pub returns-clause-calm : goal.returns-clause-calm
+returns-clause-calm c =
+    let a = c.stride-ran.new.self in let seat = c.args.seat in
+    let ran = c.args.done + c.stride-ran.result.0 in
+    let sound = subst IsActivitySound c.self.view_is c.self.invariant in
+    let taken = ap (λ (x : Seating). has x.taken seat) c.stride-ran.ensures.strode.seating ∙ c.requires.taken in
+    ap (λ (x : Activity). (sitter x.seating seat).waits) (counted-of c.self.inside c.self.view_is seat ran _ c.go_on.ensures)
+    ∙ ap (λ (who : Seat). who.waits) (sitter-there a.seating seat (record (sitter a.seating seat) { rows = (sitter a.seating seat).rows + ran; waits = None }) sound.seating.sixteen (taken-below a.seating sound.seating seat taken))

@@ -1,5 +1,5 @@
 -- The instructions of a turn.
-use Rattle.activations.proofs.Common.{array_vec_len, OnlyAsks, IsSeatSelected, IsStoreOf, KeepsDesk, KeepsParts, StaysSeated, tally_counts, IsTurning, MayBeShut, turn_in, ◌≡◌, ◌≤◌, ◌+◌, ◌*◌, ◌-◌, ℕ, List, length}
+use Rattle.activations.proofs.Common.{None, IsSome, sitter, array_vec_len, OnlyAsks, IsSeatSelected, IsStoreOf, KeepsDesk, KeepsParts, StaysSeated, tally_counts, IsTurning, MayBeShut, turn_in, ◌≡◌, ◌≤◌, ◌+◌, ◌*◌, ◌-◌, ℕ, List, length}
 use Rattle.activations.proofs.activations.Activations.run.Given as goal
 
 abbrev pub invariant-loop-left : goal.invariant-loop-left
@@ -7,6 +7,7 @@ invariant-loop-left g l = record {
   stays : StaysSeated l.initial.self l.self l.seat;
   selected : IsSeatSelected l.self l.seat;
   shut : MayBeShut l.self l.seat l.shut;
+  calm_now : IsSome l.shut → (sitter l.self.seating l.seat).waits ≡ None;
   asks : OnlyAsks g.W.Outside l.initial.outside l.outside;
   calm : g.W.Outside.disk_faults l.outside ≡ g.W.Outside.disk_faults l.initial.outside;
   parts : KeepsParts l.initial.self l.self (l.limit - l.left);
