@@ -1,4 +1,4 @@
-ghost use Rattle.std.specs.Prelude.{◌≡◌, ℕ, ◌<◌, [], None, filter, find, not, ◌==◌, replicate, map, List, Option, Some};
+ghost use Rattle.std.specs.Prelude.{◌≡◌, ℕ, ◌<◌, [], None, filter, find, not, ◌==◌, replicate, map, List, Option, Some, IfSome};
 ghost use Rattle.page_table.specs.declared.key.Key.{Key};
 ghost use Rattle.page_table.specs.Placed.{look_up};
 ghost use Rattle.page_table.specs.Keys.{key_of, key_to};
@@ -119,6 +119,19 @@ impl Tlb {
     {
         let ways = self.classes[usize::from(class)];
         ways.pairs()
+    }
+
+    /// The frame of the page of an address, if the buffer has its pair: where each pair is in a table, the frame that holds it
+    /// there.
+    #[inline(always)]
+    pub fn held(&self, at: Virtual) -> Option<u16>
+        ensures { IfSome result (λ frame. (keys : List (Option Key)) → IsOfTable self.now keys → look_up keys (key_of at) ≡ Some frame) }
+    {
+        let place = (at.page % 16) as usize;
+        match self.classes[place].find(at) {
+            Some(pair) => Some(pair.frame),
+            None => None,
+        }
     }
 
     /// The frame of the page of an address: by the buffer, which then stays, else by the table, whose answer comes into the

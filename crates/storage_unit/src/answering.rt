@@ -142,6 +142,18 @@ impl Unit {
         self.pool.frame_of(page)
     }
 
+    /// The same, asked of the buffer first.
+    #[inline(always)]
+    fn frame_in(&self, first: Virtual) -> Option<u16>
+        requires { Lies (reach_of self.now) first 1 }
+        ensures { result ≡ frame_found (reach_of self.now) first }
+    {
+        match self.buffer.held(first) {
+            Some(frame) => Some(frame),
+            None => self.frame_at(first),
+        }
+    }
+
     /// The frame of a private page of the seat that is selected.
     fn private_frame(&self, first: Virtual) -> u16
         requires own { is_private first.segment ≡ true }
@@ -163,19 +175,18 @@ impl Unit {
     /// The frame of an access whose bytes lie in one page and two lines at most, or why it can't be made now. The page of a
     /// frame is the pool's, so no segment is looked for in the directory.
     #[inline(always)]
-    pub(super) fn frame_for(&mut self, first: Virtual, bytes: u8, store: bool) -> Result<u16, Probe>
+    pub(super) fn frame_for(&self, first: Virtual, bytes: u8, store: bool) -> Result<u16, Probe>
         requires few { (0 < bytes) × (bytes ≤ 64) }
-        requires lies { Lies (reach_of self.old) first bytes }
-        requires within { first.byte + bytes ≤ page_bytes (reach_of self.old).directory.page }
-        ensures answer { AnswersAt (reach_of self.old) first bytes store (answer_of result) }
-        ensures frame { IfOk result (λ frame. frame_found (reach_of self.old) first ≡ Some frame) }
+        requires lies { Lies (reach_of self.now) first bytes }
+        requires within { first.byte + bytes ≤ page_bytes (reach_of self.now).directory.page }
+        ensures answer { AnswersAt (reach_of self.now) first bytes store (answer_of result) }
+        ensures frame { IfOk result (λ frame. frame_found (reach_of self.now) first ≡ Some frame) }
         ensures refused { IfErr result IsRefusal }
-        ensures state { reach_of self.new ≡ reach_of self.old }
     {
         if first.segment >= PRIVATE {
             return Ok(self.private_frame(first));
         }
-        let Some(frame) = self.translate(first) else {
+        let Some(frame) = self.frame_in(first) else {
             return Err(Probe::Fault(Fault::Page(first)));
         };
         if self.is_kept_in(frame, first, 0, store) {

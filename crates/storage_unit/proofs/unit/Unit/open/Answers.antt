@@ -1,4 +1,4 @@
-use Rattle.storage_unit.proofs.Lemmas.{refl, sym, ◌∙◌, subst, Reach, located_by, IsOpenAt, found-answer, found-lies, opens-when}
+use Rattle.storage_unit.proofs.Lemmas.{refl, sym, subst, Reach, located_by, IsOpenAt, found-answer, found-lies, opens-when}
 use Rattle.storage_unit.proofs.unit.Unit.open.Goals as goal
 
 pub frame_for-requires-clause-lies : goal.frame_for-requires-clause-lies
@@ -7,13 +7,12 @@ frame_for-requires-clause-lies c = let wants = c.args.wants.now in found-lies c.
 pub keep_line-requires-clause-open : goal.keep_line-requires-clause-open
 keep_line-requires-clause-open c =
     let wants = c.args.wants.now in
-    subst (λ (s : Reach). IsOpenAt s wants c.args.first c.in-Ok.frame) (sym c.frame_for.ensures.state)
-    (opens-when c.args.self.now wants c.args.first c.in-Ok.frame c.requires.located c.requires.within c.in-Ok.ensures.frame (c.in-Ok.ensures.answer wants refl refl))
+    opens-when c.args.self.now wants c.args.first c.in-Ok.frame c.requires.located c.requires.within c.in-Ok.ensures.frame (c.in-Ok.ensures.answer wants refl refl)
 
 pub returns-in-Ok-clause-open : goal.returns-in-Ok-clause-open
 returns-in-Ok-clause-open c =
     let wants = c.args.wants.now in
-    subst (λ (s : Reach). IsOpenAt s wants c.args.first c.in-Ok.frame) (sym (c.keep_line.ensures ∙ c.frame_for.ensures.state))
+    subst (λ (s : Reach). IsOpenAt s wants c.args.first c.in-Ok.frame) (sym c.keep_line.ensures)
     (opens-when c.args.self.now wants c.args.first c.in-Ok.frame c.requires.located c.requires.within c.in-Ok.ensures.frame (c.in-Ok.ensures.answer wants refl refl))
 
 pub returns-in-Ok-clause-answer : goal.returns-in-Ok-clause-answer
