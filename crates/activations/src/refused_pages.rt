@@ -60,10 +60,15 @@ impl Activations {
 fn keeps_from(entry: &Authority, tid: u8, lines: LineSet, store: bool) -> bool
     ensures { result ≡ list_any (λ line. not (lets (grant_of entry.now) tid line store)) lines }
 {
-    for line in lines.lines() {
-        if !entry.permits(tid, line, store) {
-            return true;
-        }
+    if lines.is_empty() {
+        return false;
     }
-    false
+    if entry.tid != tid {
+        return true;
+    }
+    if entry.write == store {
+        lines.bits() & !entry.bits != 0
+    } else {
+        store
+    }
 }

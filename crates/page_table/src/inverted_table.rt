@@ -110,11 +110,20 @@ impl Table {
         };
         let hash = hash(key, self.anchors.len());
         let after = self.next[place];
+        if self.anchors[hash] == Some(frame) {
+            self.anchors[hash] = after;
+        } else {
+            self.leave_chain(hash, frame, after);
+        }
+        self.keys[place] = None;
+    }
+
+    #[inline(never)]
+    fn leave_chain(&mut self, hash: usize, frame: u16, after: Option<u16>) {
         match before(&self.next, self.anchors[hash], frame) {
             Some(other) => self.next[usize::from(other)] = after,
             None => self.anchors[hash] = after,
         }
-        self.keys[place] = None;
     }
 
     /// The entry of a page of the store.

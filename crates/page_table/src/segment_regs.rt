@@ -58,8 +58,8 @@ impl SegmentRegs {
     pub fn new(page: PageSize, private: u16, windows: &[(u8, u16, u32, bool)]) -> SegmentRegs
         ensures { result ≡ registers_with page private windows.now }
     {
-        let mut registers = [None; 16];
-        registers[0] = Some(SegmentRegister {
+        let mut made = SegmentRegs::none(page);
+        made.registers[0] = Some(SegmentRegister {
             segment: private,
             bytes: 16384,
             write: true,
@@ -68,9 +68,9 @@ impl SegmentRegs {
         let mut left = windows.len();
         while left > 0 {
             left -= 1;
-            put_under(&mut registers, windows[left]);
+            put_under(&mut made.registers, windows[left]);
         }
-        SegmentRegs { page, registers }
+        made
     }
 
     /// Where so many bytes at an effective address lie. Check 2 where the register has no segment or the range passes the

@@ -338,7 +338,9 @@ impl Unit {
             return;
         }
         if let Some(frame) = self.pool.frame_of(page) {
-            self.keep_block(wants, first, frame, 0);
+            let size = self.directory.page();
+            let write = wants.store && self.pool.written(page).contains(size.line_at(first.byte));
+            self.lines.keep(wants.address, spot_of(size, frame, first.byte / 128 * 128), write);
         }
     }
 }

@@ -58,7 +58,9 @@ impl Unit {
             return Ok(());
         }
         let read = pages.read_page(outside, page, self.pool.page_mut(slot.frame));
-        self.lay_kept(page);
+        if self.pool.written(page).bits() != 0 {
+            self.lay_kept(page);
+        }
         match read {
             Ok(()) => Ok(()),
             Err(failed) => {

@@ -1,5 +1,4 @@
-use Rattle.storage_unit.proofs.Lemmas.{ap, sym, ◌∙◌, List, Option, Key, look_up}
-use Rattle.page_table.specs.Keys.{key_of}
+use Rattle.storage_unit.proofs.Lemmas.{ap, sym, ◌∙◌, List, Option, Key, key_of, look_up}
 use Rattle.storage_unit.proofs.unit.Unit.frame_in.Goals as goal
 
 pub returns-in-Some : goal.returns-in-Some

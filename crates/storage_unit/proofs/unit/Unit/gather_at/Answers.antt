@@ -1,4 +1,4 @@
-use Rattle.storage_unit.proofs.Lemmas.{refl, sym, ◌∙◌, subst, Reach, located_by, byte_place, stored_bytes, reach_of, IsOpenAt, found-answer, found-lies, gathered-at, opens-when, open-after, refused-stays, unit-sound}
+use Rattle.storage_unit.proofs.Lemmas.{refl, sym, ◌∙◌, ap, subst, Reach, Lies, located_by, byte_place, stored, stored_bytes, reach_of, IsOpenAt, found-answer, found-lies, gathered-at, opens-when, open-after, refused-stays, unit-sound}
 use Rattle.storage_unit.proofs.unit.Unit.gather_at.Goals as goal
 
 pub frame_for-requires-clause-lies : goal.frame_for-requires-clause-lies

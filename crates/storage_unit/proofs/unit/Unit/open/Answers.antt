@@ -1,4 +1,4 @@
-use Rattle.storage_unit.proofs.Lemmas.{refl, sym, subst, Reach, located_by, IsOpenAt, found-answer, found-lies, opens-when}
+use Rattle.storage_unit.proofs.Lemmas.{refl, sym, ◌∙◌, subst, Reach, located_by, IsOpenAt, found-answer, found-lies, opens-when}
 use Rattle.storage_unit.proofs.unit.Unit.open.Goals as goal
 
 pub frame_for-requires-clause-lies : goal.frame_for-requires-clause-lies

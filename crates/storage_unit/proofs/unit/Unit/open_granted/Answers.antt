@@ -1,4 +1,4 @@
-use Rattle.storage_unit.proofs.Lemmas.{nat_tests, ◌≡◌, ℕ, ◌+◌, ◌%◌, ◌≤◌, ◌^◌, sym, ◌∙◌, ap, arith, PageSize, page_bytes, Virtual, frame_at, reach_of, found-lies, finds-shared, refl, located_by, under, registers-page, unit-sound}
+use Rattle.storage_unit.proofs.Lemmas.{nat_tests, ◌≡◌, ℕ, ◌+◌, ◌%◌, ◌≤◌, ◌^◌, sym, ◌∙◌, ap, arith, PageSize, page_bytes, Virtual, frame_at, reach_of, lies-one, found-lies, finds-shared, refl, located_by, under, registers-page, unit-sound}
 use Rattle.storage_unit.proofs.unit.Unit.open_granted.Goals as goal
 
 -- what ends within 128 bytes ends within its page
